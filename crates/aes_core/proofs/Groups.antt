@@ -11,7 +11,7 @@ use Rattle.plane_core.specs.Bits.{mixed_byte}
 use Rattle.cipher_spec.proofs.Computed.{holds_below, at_each, same_below}
 use Rattle.aes_core.specs.declared.sbox.TheConstants.{FROM_FIRST, FROM_SECOND, TWICE_FROM_FIRST, TWICE_FROM_SECOND}
 use Rattle.aes_core.proofs.Pages.{triple_is}
-use Rattle.aes_core.specs.Groups.{AreEntries, entry, first_quotient, in_basis, second_quotient}
+use Rattle.aes_core.specs.Groups.{AreEntries, table_entry, first_quotient, in_basis, second_quotient}
 
 -- ---- vectors lane by lane
 
@@ -35,7 +35,7 @@ pub are_entries : (at : List ℕ) → length at ≡ 16 → AreEntries at → Swz
 are_entries at long h =
     SwzOk-from_Each1 w8 16 1 16 0 at refl (omega (arith, long)) (Each1-from_get_or (λ n. T (leb 0x80 n || ltb n 16)) at 0 (λ p l. h p (omega (arith, long))))
 
-pub looked_up : (table at : List ℕ) (p : ℕ) → length at ≡ 16 → p < 16 → get_or (swz_l w8 16 table 0 at) p 0 ≡ entry table (get_or at p 0)
+pub looked_up : (table at : List ℕ) (p : ℕ) → length at ≡ 16 → p < 16 → get_or (swz_l w8 16 table 0 at) p 0 ≡ table_entry table (get_or at p 0)
 looked_up table at p long h =
     let n = get_or at p 0 in
     let e : 16 * ((0 + p) / 16) + n ≡ n = omega arith in
@@ -50,7 +50,7 @@ is_entry f computed b n h e = subst (λ n. T (leb 0x80 n || ltb n 16)) (sym e) (
 -- the image of a byte by its two quotients
 abbrev pub by_quotients : List ℕ → List ℕ → ℕ → ℕ → ℕ
 by_quotients first second constant b =
-    bit_xor (bit_xor (entry first (first_quotient (in_basis b))) constant) (entry second (second_quotient (in_basis b)))
+    bit_xor (bit_xor (table_entry first (first_quotient (in_basis b))) constant) (table_entry second (second_quotient (in_basis b)))
 
 pub image_is : (b : ℕ) → b < 256 → by_quotients FROM_FIRST FROM_SECOND 0x63 b ≡ sub_byte b
 unfolding sub_byte inverse field_product in_basis first_quotient second_quotient

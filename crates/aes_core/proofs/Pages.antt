@@ -13,7 +13,7 @@ use Rattle.plane_core.specs.Bits.{mixed_byte}
 use Rattle.plane_core.specs.Places.{shifted, below}
 use Rattle.plane_core.proofs.States.{mix_is, same_state}
 use Rattle.plane_core.proofs.WideBlocks.{each_of_sixteen}
-use Rattle.aes_core.specs.Counters.{added, column_byte, image, last_key_byte, page_bytes, page_state}
+use Rattle.aes_core.specs.Counters.{round_difference, column_byte, image, last_key_byte, page_bytes, page_state}
 use Rattle.aes_core.proofs.Constants.{swap_inner, sub_byte_below}
 use Rattle.aes_core.proofs.CounterBlocks.{counter-later, page_split}
 
@@ -177,8 +177,8 @@ same_but_last schedule front n long =
 
 -- the state after round 1 of each block of a page: the page's, and what the last byte adds
 pub page_law : (schedule : List (List ℕ)) (iv : List ℕ) (page n : ℕ) → length iv ≡ 12
-    → rounds schedule (page_bytes iv page ++ n ∷ []) 1 ≡ add_round_key (page_state schedule iv page) (added (last_key_byte schedule) n)
-unfolding page_state added rounds
+    → rounds schedule (page_bytes iv page ++ n ∷ []) 1 ≡ add_round_key (page_state schedule iv page) (round_difference (last_key_byte schedule) n)
+unfolding page_state round_difference rounds
 page_law schedule iv page n long =
     let front = page_bytes iv page in
     let k = last_key_byte schedule in

@@ -5,7 +5,7 @@ use Rattle.std.specs.Int.Bits.{xor_zero_r}
 use Rattle.std.proofs.lemmas.List.FromFn.{get_or-map-range_with_len}
 use Rattle.std.proofs.lemmas.Simd.{SwzOk}
 use Rattle.cipher_spec.specs.Field.{field_product}
-use Rattle.cipher_spec.specs.Aes.{add_round_key, at, key_at, mix_columns, round, rounds, shift_rows, state_of, sub_byte}
+use Rattle.cipher_spec.specs.Aes.{add_round_key, at, mix_columns, round, rounds, shift_rows, state_of, sub_byte, word_at}
 use Rattle.plane_core.specs.declared.planes.Planes.{Planes}
 use Rattle.plane_core.specs.Bits.{block, byte_of, mixed_byte}
 use Rattle.plane_core.specs.Places.{lane, lane_bit}
@@ -13,7 +13,7 @@ use Rattle.plane_core.proofs.Blocks.{each_of_four}
 use Rattle.plane_core.proofs.States.{same_state}
 use Rattle.plane_core.proofs.WideBlocks.{each_of_sixteen}
 use Rattle.aes_core.specs.Column.{share}
-use Rattle.aes_core.specs.Counters.{added, column_byte, four_times, image, lane_byte, last_byte, last_key_byte, page_bytes, page_rest, page_state, quad_images, row_for, second_image, spread, without_column}
+use Rattle.aes_core.specs.Counters.{round_difference, column_byte, four_times, image, lane_byte, last_byte, last_key_byte, page_bytes, page_rest, page_state, quad_images, row_for, second_image, spread, without_column}
 use Rattle.aes_core.specs.declared.second_round.TheConstants.{ONCE, TWICE}
 use Rattle.aes_core.proofs.ImagePlanes.{lane_at, once_from, state_byte, state_from, twice_from}
 use Rattle.aes_core.proofs.Pages.{cond_below, from_zero, mixed_at, page_law, round_apart, subbed, unmasked_below}
@@ -57,17 +57,17 @@ second_image_below k s n r = unmasked_below _
 
 -- the states of a page after round 1 differ after SubBytes in the images of column 0 alone
 column_apart : (k n : ℕ) (s : List ℕ) (j : ℕ) → j < 16
-    → subbed (add_round_key s (added k n)) j ≡ bit_xor (subbed (without_column s) j) (in_column (second_image k s n) j)
-unfolding added second_image
+    → subbed (add_round_key s (round_difference k n)) j ≡ bit_xor (subbed (without_column s) j) (in_column (second_image k s n) j)
+unfolding round_difference second_image
 column_apart k n s =
     let varied : (r : ℕ) → sub_byte (bit_xor (get_or s r 0) (column_byte r (image k n))) ≡ bit_xor (sub_byte 0) (bit_xor (sub_byte (bit_xor (get_or s r 0) (column_byte r (image k n)))) 0x63) = λ r.
     from_zero (bit_xor (get_or s r 0) (column_byte r (image k n))) in
     let same : (j : ℕ) → sub_byte (bit_xor (get_or s j 0) 0) ≡ bit_xor (sub_byte (get_or s j 0)) 0 = λ j.
     ap sub_byte (xor_zero_r (get_or s j 0)) ∙ sym (xor_zero_r (sub_byte (get_or s j 0))) in
-    each_of_sixteen (λ j. subbed (add_round_key s (added k n)) j ≡ bit_xor (subbed (without_column s) j) (in_column (second_image k s n) j))
+    each_of_sixteen (λ j. subbed (add_round_key s (round_difference k n)) j ≡ bit_xor (subbed (without_column s) j) (in_column (second_image k s n) j))
     (varied 0) (varied 1) (varied 2) (varied 3) (same 4) (same 5) (same 6) (same 7) (same 8) (same 9) (same 10) (same 11) (same 12) (same 13) (same 14) (same 15)
 
-two_rounds : (schedule : List (List ℕ)) (x : List ℕ) → rounds schedule x 2 ≡ round (rounds schedule x 1) (key_at schedule 2)
+two_rounds : (schedule : List (List ℕ)) (x : List ℕ) → rounds schedule x 2 ≡ round (rounds schedule x 1) (word_at schedule 2)
 unfolding rounds
 two_rounds schedule x = refl
 
@@ -79,10 +79,10 @@ unfolding page_rest
 second_law schedule iv page n long =
     let k = last_key_byte schedule in
     let s = page_state schedule iv page in
-    let key = key_at schedule 2 in
+    let key = word_at schedule 2 in
     let f = second_image k s n in
     two_rounds schedule (page_bytes iv page ++ n ∷ []) ∙ ap (λ t. round t key) (page_law schedule iv page n long)
-    ∙ round_apart (add_round_key s (added k n)) (without_column s) key (in_column f) (λ j. cond_below (eqb (j / 4) 0) (f (j % 4)) (second_image_below k s n (j % 4))) (column_apart k n s)
+    ∙ round_apart (add_round_key s (round_difference k n)) (without_column s) key (in_column f) (λ j. cond_below (eqb (j / 4) 0) (f (j % 4)) (second_image_below k s n (j % 4))) (column_apart k n s)
     ∙ ap (add_round_key (round (without_column s) key)) (spread_is f)
 
 -- the same of a group in planes, by the images of its quad

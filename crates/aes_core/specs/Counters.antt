@@ -1,9 +1,10 @@
 -- Counter blocks (NIST SP 800-38D, 6.5): an initialization vector of 12 bytes, and a count of 32
 -- bits. Those whose counts differ in the last byte alone are a page. They have 15 bytes in common,
 -- and so most of the first two rounds of AES. Section numbers are those of FIPS 197.
-use Rattle.std.specs.Prelude.{ℕ, ◌+◌, ◌-◌, ◌*◌, ◌/◌, ◌%◌, ◌^◌, ◌<◌, ◌==◌, ◌≡◌, List, [], ◌∷◌, ◌++◌, bit_xor, slice_index, slice_index_or, if◌then◌else◌}
+use Rattle.std.specs.Prelude.{ℕ, ◌+◌, ◌-◌, ◌*◌, ◌/◌, ◌%◌, ◌^◌, ◌<◌, ◌==◌, ◌≡◌, List, [], ◌∷◌, ◌++◌}
+use Rattle.std.specs.Prelude.{bit_xor, slice_index, slice_index_or, if◌then◌else◌}
 use Rattle.std.specs.Int.{bit_at, bytes_high_first}
-use Rattle.cipher_spec.specs.Aes.{at, key_at, round, round_keys, rounds, state_of, sub_byte}
+use Rattle.cipher_spec.specs.Aes.{at, round, round_keys, rounds, state_of, sub_byte, word_at}
 use Rattle.plane_core.specs.declared.planes.Planes.{Planes}
 use Rattle.plane_core.specs.Bits.{block, number_of}
 use Rattle.plane_core.specs.Places.{lane_bit}
@@ -14,7 +15,7 @@ use Rattle.aes_core.specs.declared.page.CounterPage.{CounterPage}
 
 -- byte 15 of the first round key, which is added to the last byte of a count
 abbrev pub last_key_byte : List (List ℕ) → ℕ
-last_key_byte schedule = at (key_at schedule 0) 3 3
+last_key_byte schedule = at (word_at schedule 0) 3 3
 
 -- the 15 bytes that the counter blocks of a page have in common; a page is the count without its
 -- last byte
@@ -37,8 +38,8 @@ column_byte r y = share (3 - r) y
 
 -- by what the state after round 1 of the counter block with the last byte n differs from the
 -- page's: ShiftRows moved the byte into column 0 (5.1.2)
-unfoldable pub added : ℕ → ℕ → List ℕ
-added k n = state_of (λ r c. if c == 0 then column_byte r (image k n) else 0)
+unfoldable pub round_difference : ℕ → ℕ → List ℕ
+round_difference k n = state_of (λ r c. if c == 0 then column_byte r (image k n) else 0)
 
 -- ---- round 2
 
@@ -54,7 +55,7 @@ without_column s = state_of (λ r c. if c == 0 then 0 else at s r c)
 -- the state after round 2 of a block of a page for which its S-box sees zeros in column 0 (5.1)
 unfoldable pub page_rest : List (List ℕ) → List ℕ → ℕ → List ℕ
 page_rest schedule iv page =
-    round (without_column (page_state schedule iv page)) (key_at schedule 2)
+    round (without_column (page_state schedule iv page)) (word_at schedule 2)
 
 -- the row of column 0 that ShiftRows moves to column c (5.1.2)
 abbrev pub row_for : ℕ → ℕ

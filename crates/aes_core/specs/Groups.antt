@@ -1,10 +1,11 @@
 -- The S-box by tables that are looked up at groups of four bits.
-use Rattle.std.specs.Prelude.{◌/◌, ◌%◌, ◌<◌, ◌||◌, ℕ, List, T, bit_xor, leb, ltb, slice_index, if◌then◌else◌}
+use Rattle.std.specs.Prelude.{◌/◌, ◌%◌, ◌<◌, ◌||◌, ℕ, List, T, bit_xor, leb, ltb, slice_index}
+use Rattle.std.specs.Prelude.{if◌then◌else◌}
 use Rattle.aes_core.specs.declared.sbox.TheConstants.{FROM_LOWER, FROM_UPPER, INVERSES, QUOTIENTS}
 
 -- what a shuffle looks up in a table of 16 bytes: nothing, which is 0, from 128 on
-abbrev pub entry : List ℕ → ℕ → ℕ
-entry table n = if leb 0x80 n then 0 else slice_index table n
+abbrev pub table_entry : List ℕ → ℕ → ℕ
+table_entry table n = if leb 0x80 n then 0 else slice_index table n
 
 -- each of 16 lanes has the number of an entry, or 128 or more
 abbrev pub AreEntries : List ℕ → Type 0
@@ -12,15 +13,16 @@ AreEntries at = (p : ℕ) → p < 16 → T (leb 0x80 (slice_index at p) || ltb (
 
 -- a byte in the other basis
 unfoldable pub in_basis : ℕ → ℕ
-in_basis b = bit_xor (entry FROM_LOWER (b % 16)) (entry FROM_UPPER (b / 16))
+in_basis b = bit_xor (table_entry FROM_LOWER (b % 16)) (table_entry FROM_UPPER (b / 16))
 
 -- the quotients of a byte that is in the other basis
 unfoldable pub first_quotient : ℕ → ℕ
 first_quotient b =
-    bit_xor (entry INVERSES (bit_xor (entry INVERSES (b / 16)) (entry QUOTIENTS (b % 16))))
+    bit_xor (table_entry INVERSES (bit_xor (table_entry INVERSES (b / 16))
+    (table_entry QUOTIENTS (b % 16))))
     (bit_xor (b / 16) (b % 16))
 
 unfoldable pub second_quotient : ℕ → ℕ
 second_quotient b =
-    bit_xor (entry INVERSES (bit_xor (entry INVERSES (bit_xor (b / 16) (b % 16)))
-    (entry QUOTIENTS (b % 16)))) (b / 16)
+    bit_xor (table_entry INVERSES (bit_xor (table_entry INVERSES (bit_xor (b / 16) (b % 16)))
+    (table_entry QUOTIENTS (b % 16)))) (b / 16)

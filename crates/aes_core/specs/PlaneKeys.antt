@@ -1,6 +1,6 @@
 -- Round keys in planes.
 use Rattle.std.specs.Prelude.{ℕ, zero, suc, ◌<◌, ◌≡◌, List, bit_xor, slice_index_or}
-use Rattle.cipher_spec.specs.Aes.{at, state_of, key_at}
+use Rattle.cipher_spec.specs.Aes.{at, state_of, word_at}
 use Rattle.plane_core.specs.declared.planes.Planes.{Planes}
 use Rattle.plane_core.specs.Bits.{block}
 
@@ -10,8 +10,8 @@ with_constant k = state_of (λ r c. bit_xor (at k r c) 0x63)
 
 -- the key that planes add in round r
 unfoldable pub plane_key : List (List ℕ) → ℕ → List ℕ
-plane_key schedule zero = key_at schedule 0
-plane_key schedule (suc r) = with_constant (key_at schedule (suc r))
+plane_key schedule zero = word_at schedule 0
+plane_key schedule (suc r) = with_constant (word_at schedule (suc r))
 
 -- planes have the round keys of a schedule in each of `count` blocks
 pub record HasKeys {P : Type 0} (bit : P → ℕ → ℕ → ℕ) (count : ℕ) (keys : List (Planes P))

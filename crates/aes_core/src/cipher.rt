@@ -1,7 +1,7 @@
 //! The cipher over round keys (FIPS 197, 5.1), on one block in a vector.
 
 ghost use Rattle.std.specs.Prelude.{◌≡◌, ◌<◌, ℕ, slice_index};
-ghost use Rattle.cipher_spec.specs.Aes.{add_round_key, cipher, key_at, last_round, round};
+ghost use Rattle.cipher_spec.specs.Aes.{add_round_key, cipher, last_round, round, word_at};
 ghost use Rattle.plane_core.specs.Places.{below, shifted};
 ghost use Rattle.aes_core.specs.Counters.{without_column};
 
@@ -85,7 +85,7 @@ pub fn cipher(keys: &[[u8; 16]; 15], x: [u8; 16]) -> [u8; 16]
 /// The state after the first round (FIPS 197, 5.1).
 #[inline(always)]
 pub fn after_first_round(keys: &[[u8; 16]; 15], x: [u8; 16]) -> [u8; 16]
-    ensures { result ≡ round (add_round_key x (key_at keys.now 0)) (key_at keys.now 1) }
+    ensures { result ≡ round (add_round_key x (word_at keys.now 0)) (word_at keys.now 1) }
 {
     round(first(x, keys[0]), keys[1]).to_array()
 }

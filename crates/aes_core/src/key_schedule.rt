@@ -2,7 +2,8 @@
 
 ghost use Rattle.std.specs.Prelude.{◌≡◌, ◌<◌, ◌≤◌, ◌∷◌, [], map};
 ghost use Rattle.std.specs.List.{range_with_len};
-ghost use Rattle.cipher_spec.specs.Aes.{add_word, changed, key_expansion, key_word, rcon, rot_word, round_key, round_keys, sub_word, words};
+ghost use Rattle.cipher_spec.specs.Aes.{add_word, changed, key_expansion, key_word, rcon, rot_word};
+ghost use Rattle.cipher_spec.specs.Aes.{round_key, round_keys, sub_word, words};
 
 use crate::sbox::sub_bytes;
 use std::simd::prelude::*;

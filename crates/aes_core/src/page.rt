@@ -8,7 +8,8 @@ ghost use Rattle.std.specs.Prelude.{◌≡◌, ℕ, ◌/◌, ◌%◌, ◌^◌, �
 ghost use Rattle.cipher_spec.specs.Aes.{rounds};
 ghost use Rattle.plane_core.specs.Bits.{block};
 ghost use Rattle.plane_core.specs.Places.{lane_bit};
-ghost use Rattle.aes_core.specs.Counters.{HasColumns, HasPage, last_byte, last_key_byte, page_bytes};
+ghost use Rattle.aes_core.specs.Counters.{HasColumns, HasPage, last_byte, last_key_byte};
+ghost use Rattle.aes_core.specs.Counters.{page_bytes};
 
 use crate::cipher::{after_first_round, round_without_column};
 use crate::counter::page_block;

@@ -11,7 +11,8 @@
 ghost use Rattle.std.specs.Prelude.{◌≡◌, ◌/◌, ◌%◌, ◌<◌, ℕ, bit_xor, length, slice_index};
 ghost use Rattle.cipher_spec.specs.Aes.{sub_byte};
 ghost use Rattle.cipher_spec.specs.Field.{field_product};
-ghost use Rattle.aes_core.specs.Groups.{AreEntries, entry, first_quotient, in_basis, second_quotient};
+ghost use Rattle.aes_core.specs.Groups.{AreEntries, table_entry, first_quotient, in_basis};
+ghost use Rattle.aes_core.specs.Groups.{second_quotient};
 
 use crate::constant::CONSTANT;
 use std::simd::prelude::*;
@@ -89,7 +90,7 @@ pub fn sum(x: u8x16, y: u8x16) -> u8x16
 #[inline(always)]
 fn looked(table: u8x16, at: u8x16) -> u8x16
     requires { AreEntries at }
-    ensures { (p : ℕ) → p < 16 → slice_index result p ≡ entry table (slice_index at p) }
+    ensures { (p : ℕ) → p < 16 → slice_index result p ≡ table_entry table (slice_index at p) }
 {
     table.swizzle_dyn(at)
 }
@@ -138,8 +139,8 @@ fn joined(first: u8x16, second: u8x16, constant: u8, q: &Quotients) -> u8x16
     requires first { AreEntries q.now.first }
     requires second { AreEntries q.now.second }
     ensures lanes { (p : ℕ) → p < 16 → slice_index result p
-        ≡ bit_xor (bit_xor (entry first (slice_index q.now.first p)) constant)
-        (entry second (slice_index q.now.second p)) }
+        ≡ bit_xor (bit_xor (table_entry first (slice_index q.now.first p)) constant)
+        (table_entry second (slice_index q.now.second p)) }
     ensures long { length result ≡ 16 }
 {
     sum(

@@ -71,7 +71,8 @@ fn last_states(keys: &[Planes<u8x16>; 15], start: &Planes<u8x32>) -> Planes<u8x3
 #[inline(always)]
 pub fn cipher_from(keys: &[Planes<u8x16>; 15], start: &Planes<u8x32>) -> [[u8; 16]; 16]
     ensures { (schedule x : List (List ℕ)) → HasKeys lane_bit 8 keys.now schedule → length x ≡ 16
-        → ((b : ℕ) → b < 16 → block wide_bit start.now b ≡ rounds schedule (slice_index_or x b []) 2)
+        → ((b : ℕ) → b < 16 → block wide_bit start.now b
+        ≡ rounds schedule (slice_index_or x b []) 2)
         → result ≡ map (cipher schedule) x }
 {
     stored(&last_states(keys, start))

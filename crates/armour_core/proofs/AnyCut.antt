@@ -5,8 +5,8 @@ use Rattle.std.proofs.lemmas.List.{append-nil, append_assoc, length-append, leng
 use Rattle.armour_core.specs.ArmourText.{armour_text}
 use Rattle.armour_core.specs.Armouring.{ArmouringValue, in_full_lines, line_ended, line_stepped, new_armouring, open_line, taken_of}
 use Rattle.armour_core.specs.Unarmoured.{groups_read, unarmoured}
-use Rattle.armour_core.specs.Unarmouring.{UnarmouringValue, group_stepped, new_unarmouring, stopped_at, stepped_where, text_ended, used_of}
-use Rattle.armour_core.specs.Laws.{ArmoursAnyCut, Call, Finish, Step, UnarmoursAnyCut, after_call, after_calls, after_steps, given_by_calls, given_by_steps}
+use Rattle.armour_core.specs.Unarmouring.{UnarmouringValue, group_stepped, new_unarmouring, unarmouring_stopped, stepped_where, text_ended, used_in_piece}
+use Rattle.armour_core.specs.Laws.{ArmoursAnyCut, ArmourCall, Finish, Step, UnarmoursAnyCut, after_armour_call, after_calls, after_steps, given_by_calls, given_by_steps}
 use Rattle.armour_core.specs.LineLaws.{armour_append, armour_nil}
 use Rattle.armour_core.proofs.Stepping.{grows}
 
@@ -100,16 +100,16 @@ stepped_gives v more None sound good = record { all = grows v.taken more sound; 
 stepped_gives v more (Some number) sound bad = gives_none v true sound
 
 step_case : (v : UnarmouringValue) (more : List ℕ) (stopped : Bool) → (unarmoured v.taken).bad ≡ None
-    → Gives v (if stopped then stopped_at v else stepped_where (unarmoured (v.taken ++ more)).bad v (v.taken ++ more))
+    → Gives v (if stopped then unarmouring_stopped v else stepped_where (unarmoured (v.taken ++ more)).bad v (v.taken ++ more))
 step_case v more true sound = gives_none v true sound
 step_case v more false sound = stepped_gives v more (unarmoured (v.taken ++ more)).bad sound refl
 
 step_gives : (v : UnarmouringValue) (piece : List ℕ) → (unarmoured v.taken).bad ≡ None → Gives v (group_stepped v piece)
 unfolding group_stepped
-step_gives v piece sound = step_case v (take (used_of v piece) piece) v.stopped sound
+step_gives v piece sound = step_case v (take (used_in_piece v piece) piece) v.stopped sound
 
 end_case : (v : UnarmouringValue) (stopped short : Bool) → (unarmoured v.taken).bad ≡ None
-    → Gives v (if stopped then stopped_at v else if short then stopped_at v else record v { out = [] })
+    → Gives v (if stopped then unarmouring_stopped v else if short then unarmouring_stopped v else record v { out = [] })
 end_case v true short sound = gives_none v true sound
 end_case v false true sound = gives_none v true sound
 end_case v false false sound = gives_none v v.stopped sound
@@ -118,17 +118,17 @@ end_gives : (v : UnarmouringValue) → (unarmoured v.taken).bad ≡ None → Giv
 unfolding text_ended
 end_gives v sound = end_case v v.stopped (unarmoured v.taken).short sound
 
-call_gives : (v : UnarmouringValue) (call : Call) → (unarmoured v.taken).bad ≡ None → Gives v (after_call v call)
+call_gives : (v : UnarmouringValue) (call : ArmourCall) → (unarmoured v.taken).bad ≡ None → Gives v (after_armour_call v call)
 call_gives v (Step piece) sound = step_gives v piece sound
 call_gives v Finish sound = end_gives v sound
 
-calls_give : (calls : List Call) (v : UnarmouringValue) → (unarmoured v.taken).bad ≡ None
+calls_give : (calls : List ArmourCall) (v : UnarmouringValue) → (unarmoured v.taken).bad ≡ None
     → ((unarmoured v.taken).bytes ++ given_by_calls calls v ≡ (unarmoured (after_calls calls v).taken).bytes) × ((unarmoured (after_calls calls v).taken).bad ≡ None)
 unfolding given_by_calls after_calls
 calls_give [] v sound = (append-nil (unarmoured v.taken).bytes, sound)
 calls_give (call ∷ calls) v sound =
     let g = call_gives v call sound in
-    let w : UnarmouringValue = after_call v call in
+    let w : UnarmouringValue = after_armour_call v call in
     let rest = calls_give calls w g.sound in (
       sym (append_assoc (unarmoured v.taken).bytes w.out (given_by_calls calls w)) ∙ ap (λ (x : List ℕ). x ++ given_by_calls calls w) (sym g.all) ∙ rest.0,
       rest.1,

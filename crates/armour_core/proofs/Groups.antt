@@ -3,7 +3,7 @@ use Rattle.std.proofs.Common.{◌≡◌, ℕ, ◌+◌, ◌%◌, ◌/◌, ◌<◌
 use Rattle.std.proofs.lemmas.List.{append_assoc}
 use Rattle.base64.specs.GeneralPurpose.{decoded_of}
 use Rattle.base64.specs.Engines.{standard}
-use Rattle.armour_core.specs.Unarmoured.{GroupsRead, behind, group_then, groups_read, none_read, padding}
+use Rattle.armour_core.specs.Unarmoured.{GroupsRead, groups_behind, group_then, groups_read, none_read, padding}
 use Rattle.armour_core.specs.Stands.{open_from}
 pub use Rattle.armour_core.specs.Outlook.{open_on, read_on}
 
@@ -35,14 +35,14 @@ open_length n p (a ∷ b ∷ c ∷ []) = refl
 
 -- ---- what is read
 
-group_good : (n : ℕ) (x : Option (List ℕ)) (r more s : GroupsRead) → (group_then n x r).bad ≡ None → (r.bad ≡ None → more ≡ behind r.bytes s)
-    → group_then n x more ≡ behind (group_then n x r).bytes s
+group_good : (n : ℕ) (x : Option (List ℕ)) (r more s : GroupsRead) → (group_then n x r).bad ≡ None → (r.bad ≡ None → more ≡ groups_behind r.bytes s)
+    → group_then n x more ≡ groups_behind (group_then n x r).bytes s
 group_good n None r more s sound rest = cc sound
-group_good n (Some bytes) r more s sound rest = ap (λ (g : GroupsRead). behind bytes g) (rest sound) ∙ ap (λ (b : List ℕ). record { bytes = b; bad = s.bad }) (sym (append_assoc bytes r.bytes s.bytes))
+group_good n (Some bytes) r more s sound rest = ap (λ (g : GroupsRead). groups_behind bytes g) (rest sound) ∙ ap (λ (b : List ℕ). record { bytes = b; bad = s.bad }) (sym (append_assoc bytes r.bytes s.bytes))
 
 -- behind sound groups the reading goes on with the open one
 pub read_append : (n : ℕ) (p : Bool) (cs more : List ℕ) → (groups_read n p cs).bad ≡ None
-    → groups_read n p (cs ++ more) ≡ behind (groups_read n p cs).bytes (read_on (open_from n p cs) more)
+    → groups_read n p (cs ++ more) ≡ groups_behind (groups_read n p cs).bytes (read_on (open_from n p cs) more)
 unfolding groups_read open_from
 read_append n true [] more sound = refl
 read_append n true (a ∷ cs) more sound = cc sound
@@ -57,7 +57,7 @@ read_append n false (a ∷ b ∷ c ∷ d ∷ cs) more sound =
 group_bad : (n k : ℕ) (x : Option (List ℕ)) (r more : GroupsRead) → (group_then n x r).bad ≡ Some k → (r.bad ≡ Some k → more ≡ r)
     → group_then n x more ≡ group_then n x r
 group_bad n k None r more bad rest = refl
-group_bad n k (Some bytes) r more bad rest = ap (λ (g : GroupsRead). behind bytes g) (rest bad)
+group_bad n k (Some bytes) r more bad rest = ap (λ (g : GroupsRead). groups_behind bytes g) (rest bad)
 
 -- behind a bad group nothing is read
 pub read_no_more : (n k : ℕ) (p : Bool) (cs more : List ℕ) → (groups_read n p cs).bad ≡ Some k → groups_read n p (cs ++ more) ≡ groups_read n p cs

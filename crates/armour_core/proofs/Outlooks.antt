@@ -13,9 +13,9 @@ use Rattle.armour_core.specs.declared.text_end.TextEnd.{TextEnd}
 use Rattle.armour_core.specs.declared.text_end.TextEnd.TheVariants.{Bad}
 use Rattle.armour_core.specs.declared.unarmour.Unarmour.{Unarmour}
 use Rattle.armour_core.specs.Outlook.{Outlook, bad_end, end_of, holds_some, open_of, open_on, read_on, read_out, with_front}
-use Rattle.armour_core.specs.Unarmoured.{GroupsRead, behind, characters, group_then, groups_read, is_character, padding, unarmoured}
-use Rattle.armour_core.specs.Unarmouring.{UnarmouringValue, answer_where, bad_armour, bytes_with, gained, group_answer, group_stepped, text_with, used_of}
-use Rattle.armour_core.specs.Stands.{OpenGroup, Reads, open_from, open_group}
+use Rattle.armour_core.specs.Unarmoured.{GroupsRead, groups_behind, characters, group_then, groups_read, is_character, padding, unarmoured}
+use Rattle.armour_core.specs.Unarmouring.{UnarmouringValue, answer_where, bad_armour, bytes_with, gained, group_answer, group_stepped, text_with, used_in_piece}
+use Rattle.armour_core.specs.Stands.{OpenGroup, StandsReading, open_from, open_group}
 use Rattle.armour_core.proofs.Groups.{open_append, open_length, open_number, read_append, read_nil, read_no_more}
 use Rattle.armour_core.proofs.Reachable.{reached, reads_there, session_at}
 use Rattle.armour_core.proofs.Reading.{bad_read, gained_beyond, read}
@@ -115,10 +115,10 @@ outlook_bad o text more long number bad =
 
 -- ---- a step
 
-answer_ok : (v : UnarmouringValue) (piece : List ℕ) (used : ℕ) → v.stopped ≡ false → Ok used ≡ group_answer v piece → (used_of v piece ≡ used) × ((unarmoured (text_with v piece)).bad ≡ None)
+answer_ok : (v : UnarmouringValue) (piece : List ℕ) (used : ℕ) → v.stopped ≡ false → Ok used ≡ group_answer v piece → (used_in_piece v piece ≡ used) × ((unarmoured (text_with v piece)).bad ≡ None)
 unfolding group_answer
 answer_ok v piece used goes is =
-    where_ok (unarmoured (text_with v piece)).bad (used_of v piece) used (sym (is ∙ ap (λ (b : Bool). if b then Err Stopped else answer_where (unarmoured (text_with v piece)).bad (used_of v piece)) goes))
+    where_ok (unarmoured (text_with v piece)).bad (used_in_piece v piece) used (sym (is ∙ ap (λ (b : Bool). if b then Err Stopped else answer_where (unarmoured (text_with v piece)).bad (used_in_piece v piece)) goes))
   where
     where_ok : (bad : Option ℕ) (count used : ℕ) → answer_where bad count ≡ Ok used → (count ≡ used) × (bad ≡ None)
     where_ok None count used h = (cc h, refl)
@@ -133,21 +133,21 @@ pub record BadThere (v : UnarmouringValue) (piece : List ℕ) (error : ArmourErr
 pub answer_err : (v : UnarmouringValue) (piece : List ℕ) (error : ArmourError) → v.stopped ≡ false → Err error ≡ group_answer v piece → BadThere v piece error
 unfolding group_answer
 answer_err v piece error goes is =
-    where_err (unarmoured (text_with v piece)).bad refl (sym (is ∙ ap (λ (b : Bool). if b then Err Stopped else answer_where (unarmoured (text_with v piece)).bad (used_of v piece)) goes))
+    where_err (unarmoured (text_with v piece)).bad refl (sym (is ∙ ap (λ (b : Bool). if b then Err Stopped else answer_where (unarmoured (text_with v piece)).bad (used_in_piece v piece)) goes))
   where
-    where_err : (bad : Option ℕ) → (unarmoured (text_with v piece)).bad ≡ bad → answer_where bad (used_of v piece) ≡ Err error → BadThere v piece error
+    where_err : (bad : Option ℕ) → (unarmoured (text_with v piece)).bad ≡ bad → answer_where bad (used_in_piece v piece) ≡ Err error → BadThere v piece error
     where_err None is h = cc h
     where_err (Some n) is h = record { number = n; bad = is; is = cc h }
 
 -- what the open group of a session reads
-read_there : (v : UnarmouringValue) (t : List ℕ) → (unarmoured v.taken).bad ≡ None → read (v.taken ++ t) ≡ behind (read v.taken).bytes (read_on (open_group v.taken) (characters t))
+read_there : (v : UnarmouringValue) (t : List ℕ) → (unarmoured v.taken).bad ≡ None → read (v.taken ++ t) ≡ groups_behind (read v.taken).bytes (read_on (open_group v.taken) (characters t))
 read_there v t sound = ap (groups_read 1 false) (filter-append is_character v.taken t) ∙ read_append 1 false (characters v.taken) (characters t) (sym (bad_read v.taken) ∙ sound)
 
 open_there : (v : UnarmouringValue) (t : List ℕ) → open_group (v.taken ++ t) ≡ open_on (open_group v.taken) (characters t)
 open_there v t = ap (open_from 1 false) (filter-append is_character v.taken t) ∙ open_append 1 false (characters v.taken) (characters t)
 
-pub step_outlook : (u new : Unarmour) (piece more : List ℕ) (used : ℕ) (long : Bool) → u.stopped ≡ false → ((v : UnarmouringValue) → Reads u v → Ok used ≡ group_answer v piece)
-    → ((v : UnarmouringValue) → Reads u v → Reads new (group_stepped v piece)) → (read_out (open_of u) (take used piece ++ more) long ≡ with_front (take new.given new.bytes) (read_out (open_of new) more long)) × (new.stopped ≡ false)
+pub step_outlook : (u new : Unarmour) (piece more : List ℕ) (used : ℕ) (long : Bool) → u.stopped ≡ false → ((v : UnarmouringValue) → StandsReading u v → Ok used ≡ group_answer v piece)
+    → ((v : UnarmouringValue) → StandsReading u v → StandsReading new (group_stepped v piece)) → (read_out (open_of u) (take used piece ++ more) long ≡ with_front (take new.given new.bytes) (read_out (open_of new) more long)) × (new.stopped ≡ false)
 unfolding session_at
 step_outlook u new piece more used long goes answer stands =
     let v : UnarmouringValue = session_at u in
@@ -159,9 +159,9 @@ step_outlook u new piece more used long goes answer stands =
     let text : text_with v piece ≡ v.taken ++ t = ap (λ (n : ℕ). v.taken ++ take n piece) ok.0 in
     let sound : (unarmoured (v.taken ++ t)).bad ≡ None = ap (λ (x : List ℕ). (unarmoured x).bad) (sym text) ∙ ok.1 in
     let w : UnarmouringValue = record { taken = v.taken ++ t; stopped = false; out = gained v.taken (v.taken ++ t) } in
-    let reads : Reads new w = subst (Reads new) (goes_as v piece used goes ok.0 sound).1 (stands v at) in
+    let reads : StandsReading new w = subst (StandsReading new) (goes_as v piece used goes ok.0 sound).1 (stands v at) in
     let holds = reads.group refl in
-    let reading : read (v.taken ++ t) ≡ behind (read v.taken).bytes (read_on o (characters t)) = read_there v t there.sound ∙ ap (λ (g : OpenGroup). behind (read v.taken).bytes (read_on g (characters t))) there.opens in
+    let reading : read (v.taken ++ t) ≡ groups_behind (read v.taken).bytes (read_on o (characters t)) = read_there v t there.sound ∙ ap (λ (g : OpenGroup). groups_behind (read v.taken).bytes (read_on g (characters t))) there.opens in
     let here : (read_on o (characters t)).bad ≡ None = sym (ap (λ (r : GroupsRead). r.bad) reading) ∙ sym (bad_read (v.taken ++ t)) ∙ sound in
     let out : take new.given new.bytes ≡ (read_on o (characters t)).bytes = reads.out ∙ gained_beyond v.taken (v.taken ++ t) (read_on o (characters t)).bytes (ap (λ (r : GroupsRead). r.bytes) reading) in
     let after : open_group (v.taken ++ t) ≡ open_on o (characters t) = open_there v t ∙ ap (λ (g : OpenGroup). open_on g (characters t)) there.opens in
@@ -222,7 +222,7 @@ few_with (x ∷ piece) (suc n) =
           omega (arith, is, none)
     ]
 
-pub step_bad : (u : Unarmour) (piece more : List ℕ) (long : Bool) (error : ArmourError) (number : ℕ) → u.stopped ≡ false → ((v : UnarmouringValue) → Reads u v → Err error ≡ group_answer v piece)
+pub step_bad : (u : Unarmour) (piece more : List ℕ) (long : Bool) (error : ArmourError) (number : ℕ) → u.stopped ≡ false → ((v : UnarmouringValue) → StandsReading u v → Err error ≡ group_answer v piece)
     → error ≡ Fault (BadArmour number) → read_out (open_of u) (piece ++ more) long ≡ record { bytes = []; end = Bad number }
 unfolding session_at
 step_bad u piece more long error number goes answer is =
@@ -230,14 +230,14 @@ step_bad u piece more long error number goes answer is =
     let there = reached u in
     let o : OpenGroup = open_of u in
     let bad = answer_err v piece error goes (answer v (reads_there u)) in
-    let t : List ℕ = take (used_of v piece) piece in
-    let reading : read (v.taken ++ t) ≡ behind (read v.taken).bytes (read_on o (characters t)) = read_there v t there.sound ∙ ap (λ (g : OpenGroup). behind (read v.taken).bytes (read_on g (characters t))) there.opens in
+    let t : List ℕ = take (used_in_piece v piece) piece in
+    let reading : read (v.taken ++ t) ≡ groups_behind (read v.taken).bytes (read_on o (characters t)) = read_there v t there.sound ∙ ap (λ (g : OpenGroup). groups_behind (read v.taken).bytes (read_on g (characters t))) there.opens in
     let here : (read_on o (characters t)).bad ≡ Some bad.number = sym (ap (λ (r : GroupsRead). r.bad) reading) ∙ sym (bad_read (v.taken ++ t)) ∙ bad.bad in
     let held : length o.held ≡ length (characters v.taken) % 4 = ap (λ (g : OpenGroup). length g.held) (sym there.opens) ∙ open_length 1 false (characters v.taken) in
     let few = few_with piece (4 - length (characters v.taken) % 4) in
     let short : length (o.held ++ characters t) ≤ 4 = omega (arith, held, few, length-append o.held (characters t)) in
     let none = few_bad o.number bad.number o.padded (o.held ++ characters t) short here in
-    let all : piece ++ more ≡ t ++ (drop (used_of v piece) piece ++ more) = ap (λ (x : List ℕ). x ++ more) (sym (take-append-drop (used_of v piece) piece)) ∙ append_assoc t (drop (used_of v piece) piece) more in
+    let all : piece ++ more ≡ t ++ (drop (used_in_piece v piece) piece ++ more) = ap (λ (x : List ℕ). x ++ more) (sym (take-append-drop (used_in_piece v piece) piece)) ∙ append_assoc t (drop (used_in_piece v piece) piece) more in
     let same : bad_end bad.number ≡ Bad number = let e = sym bad.is ∙ is in let n : min bad.number (2 ^ 64 - 1) ≡ number = cc e in ap (λ (k : ℕ). let x : TextEnd = Bad k in x) n in
-    ap (λ (x : List ℕ). read_out o x long) all ∙ outlook_bad o t (drop (used_of v piece) piece ++ more) long bad.number here
+    ap (λ (x : List ℕ). read_out o x long) all ∙ outlook_bad o t (drop (used_in_piece v piece) piece ++ more) long bad.number here
     ∙ ap (λ (b : List ℕ). let l : Outlook = record { bytes = b; end = bad_end bad.number } in l) none ∙ ap (λ (e : TextEnd). let l : Outlook = record { bytes = []; end = e } in l) same

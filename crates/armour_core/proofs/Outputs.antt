@@ -12,7 +12,7 @@ pub use Rattle.armour_core.specs.ArmouredOutput.{held_of}
 use Rattle.armour_core.specs.Armouring.{ArmouringValue, full_line_text, in_full_lines, line_ended, line_stepped, open_line, taken_of}
 use Rattle.armour_core.specs.LineLaws.{armour_nil}
 use Rattle.armour_core.proofs.Readers.{filled_more}
-use Rattle.armour_core.specs.Stands.{IsOpen, Stands}
+use Rattle.armour_core.specs.Stands.{ArmourIsOpen, Stands}
 
 -- a session at which an armour stands
 abbrev pub session_of : Armour → ArmouringValue
@@ -35,7 +35,7 @@ stands_there armour =
 ended_open : (v : ArmouringValue) → v.finished ≡ false → (line_ended v).out ≡ armour_text (open_line v.taken)
 ended_open v goes = ap (λ (b : Bool). let w : ArmouringValue = if b then record v { out = [] } else record v { finished = true; out = armour_text (open_line v.taken) } in w.out) goes
 
-pub end_text : (old new : Armour) (out : List ℕ) → IsOpen old → ((v : ArmouringValue) → Stands old v → Stands new (line_ended v))
+pub end_text : (old new : Armour) (out : List ℕ) → ArmourIsOpen old → ((v : ArmouringValue) → Stands old v → Stands new (line_ended v))
     → ((v : ArmouringValue) → Stands new v → out ≡ v.out) → out ≡ armour_text (held_of old)
 end_text old new out goes ends gives =
     gives (line_ended (session_of old)) (ends (session_of old) (stands_there old)) ∙ ended_open (session_of old) goes ∙ ap armour_text (open_held old)
@@ -169,13 +169,13 @@ extends_more r s t first second one two = two ∙ ap (λ (x : List ℕ). x ++ se
 
 -- What was written of the text so far.
 pub record FillingLines (old now : Armour) (bytes text : List ℕ) (used filled : ℕ) : Type 0 where
-  pub goes : IsOpen now
+  pub goes : ArmourIsOpen now
   pub size : length text ≡ 9856
   pub room : filled ≤ 9856
   pub none : used ≡ 0 → filled ≡ 0
   pub lines : Handing Extends [] (take filled text) (held_of old) (held_of now) bytes used
 
-pub filling_lines_begin : (armour : Armour) (bytes text : List ℕ) → IsOpen armour → length text ≡ 9856 → FillingLines armour armour bytes text 0 0
+pub filling_lines_begin : (armour : Armour) (bytes text : List ℕ) → ArmourIsOpen armour → length text ≡ 9856 → FillingLines armour armour bytes text 0 0
 filling_lines_begin armour bytes text goes size = record {
   goes = goes;
   size = size;
@@ -185,7 +185,7 @@ filling_lines_begin armour bytes text goes size = record {
 }
 
 pub filling_lines_more : (old now new : Armour) (bytes text part : List ℕ) (used filled more count k : ℕ) → FillingLines old now bytes text used filled → used < length bytes → filled ≤ 9779
-    → IsOpen new → more ≤ length (rest_of bytes used) → (1 ≤ length (rest_of bytes used) → 1 ≤ more) → count ≤ 77 → k ≡ length text - filled → length part ≡ k
+    → ArmourIsOpen new → more ≤ length (rest_of bytes used) → (1 ≤ length (rest_of bytes used) → 1 ≤ more) → count ≤ 77 → k ≡ length text - filled → length part ≡ k
     → take count part ≡ full_lines_text (held_of now ++ take more (rest_of bytes used)) → held_of new ≡ open_line (held_of now ++ take more (rest_of bytes used))
     → FillingLines old new bytes (put_mid filled k text part) (used + more) (filled + count)
 filling_lines_more old now new bytes text part used filled more count k f within room goes few some short is size gives keeps =

@@ -9,7 +9,7 @@ use Rattle.armour_core.specs.GroupState.{IsGroupState}
 use Rattle.armour_core.specs.Outlook.{open_of}
 use Rattle.armour_core.specs.Unarmoured.{GroupsRead, characters, groups_read, is_character, unarmoured}
 use Rattle.armour_core.specs.Unarmouring.{UnarmouringValue}
-use Rattle.armour_core.specs.Stands.{OpenGroup, Reads, open_from, open_group}
+use Rattle.armour_core.specs.Stands.{OpenGroup, StandsReading, open_from, open_group}
 use Rattle.armour_core.proofs.Groups.{read_nil}
 use Rattle.armour_core.proofs.ReadBack.{group_again, keep}
 use Rattle.armour_core.proofs.Reading.{bad_read}
@@ -132,7 +132,7 @@ reached u = reached_where u.group u.held u.number u.padded u.state
 unfoldable pub session_at : (u : Unarmour) → UnarmouringValue
 session_at u = record { taken = (reached u).text; stopped = u.stopped; out = take u.given u.bytes }
 
-pub reads_there : (u : Unarmour) → Reads u (session_at u)
+pub reads_there : (u : Unarmour) → StandsReading u (session_at u)
 unfolding session_at
 reads_there u =
     let r = reached u in record {

@@ -1,14 +1,14 @@
 -- Groups of a text that are read at once, and line breaks that are passed over.
 use Rattle.std.proofs.Common.{◌≡◌, ℕ, ◌+◌, ◌-◌, ◌*◌, ◌/◌, ◌%◌, ◌^◌, ◌<◌, nat_le, min, Bool, false, List, [], ◌∷◌, ◌++◌, length, take, drop, slice_index, Option, Some, None, refl, sym, ap, ◌∙◌, arith, if◌then◌else◌}
 use Rattle.std.proofs.lemmas.List.{append_assoc, drop-drop, drop_more, take-append-drop}
+use Rattle.esdk_base.specs.Streams.{most_input}
 use Rattle.base64.specs.GeneralPurpose.{IsBytes}
-use Rattle.whole_input.specs.Pieces.{most_input}
 use Rattle.armour_core.specs.declared.reader.ArmourReader.{ArmourReader}
 use Rattle.armour_core.specs.declared.text_end.TextEnd.{TextEnd}
 use Rattle.armour_core.specs.declared.unarmour.Unarmour.{Unarmour}
 use Rattle.armour_core.specs.GroupState.{IsGroupState}
 use Rattle.armour_core.specs.Outlook.{Outlook, end_of, holds_some, open_of, read_out, with_front}
-use Rattle.armour_core.specs.ReaderOutlook.{coming, pending, reader_outlook, room_of, unread}
+use Rattle.armour_core.specs.ReaderOutlook.{coming, pending, reader_outlook, text_room, unread}
 use Rattle.armour_core.specs.Sextets.{symbols_in}
 use Rattle.armour_core.specs.Stands.{OpenGroup}
 use Rattle.armour_core.specs.Unarmoured.{GroupsRead, characters, is_character}
@@ -39,11 +39,11 @@ break_passed r new text within is pieces at unarmour handed ending =
     same_coming : (e : Option TextEnd) → coming e new text ≡ coming e r text
     same_coming (Some end) = refl
     same_coming None =
-        let T : List ℕ = take (room_of r) text in
-        let long : Bool = nat_le (room_of r) (length text) in
+        let T : List ℕ = take (text_room r) text in
+        let long : Bool = nat_le (text_room r) (length text) in
         let left : unread r ≡ slice_index r.pieces.piece r.at ∷ drop (r.at + 1) r.pieces.piece = drop_more r.pieces.piece r.at 0 within in
-        ap (λ (u : Unarmour). read_out (open_of u) (unread new ++ take (room_of new) text) (nat_le (room_of new) (length text))) unarmour
-        ∙ ap (λ (n : ℕ). read_out (open_of r.unarmour) (drop n new.pieces.piece ++ take (room_of new) text) (nat_le (room_of new) (length text))) at
+        ap (λ (u : Unarmour). read_out (open_of u) (unread new ++ take (text_room new) text) (nat_le (text_room new) (length text))) unarmour
+        ∙ ap (λ (n : ℕ). read_out (open_of r.unarmour) (drop n new.pieces.piece ++ take (text_room new) text) (nat_le (text_room new) (length text))) at
         ∙ ap (λ p. read_out (open_of r.unarmour) (drop (r.at + 1) p.piece ++ take (most_input - p.taken) text) (nat_le (most_input - p.taken) (length text))) pieces
         ∙ sym (alike (open_of r.unarmour) (slice_index r.pieces.piece r.at ∷ (drop (r.at + 1) r.pieces.piece ++ T)) (drop (r.at + 1) r.pieces.piece ++ T) long
         (passed (slice_index r.pieces.piece r.at) (drop (r.at + 1) r.pieces.piece ++ T) is))
@@ -102,8 +102,8 @@ pub groups_read_at : (r new : ArmourReader) (count : ℕ) (bytes text : List ℕ
     → reader_outlook r text ≡ with_front bytes (reader_outlook new text)
 groups_read_at r new count bytes text handed goes held padded good are full pieces at same_handed ending passed =
     let n : ℕ = 4 * count in
-    let T : List ℕ = take (room_of r) text in
-    let long : Bool = nat_le (room_of r) (length text) in
+    let T : List ℕ = take (text_room r) text in
+    let long : Bool = nat_le (text_room r) (length text) in
     let none : pending new ≡ [] =
     ap (λ (k : ℕ). drop k (take new.unarmour.given new.unarmour.bytes)) same_handed ∙ ap (λ (k : ℕ). drop r.handed (take k new.unarmour.bytes)) passed.given.1
     ∙ ap (λ (b : List ℕ). drop r.handed (take r.unarmour.given b)) passed.given.0 ∙ handed in

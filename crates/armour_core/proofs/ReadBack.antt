@@ -5,6 +5,7 @@ use Rattle.std.proofs.lemmas.List.Elements.{filter-append}
 use Rattle.std.proofs.lemmas.Bool.{and_parts, cases_lt, lt-leb, not-true}
 use Rattle.std.proofs.Math.Seq.{take-add}
 use Rattle.std.specs.Result.{result_ok}
+use Rattle.esdk_base.specs.Streams.{most_input}
 use Rattle.base64.specs.Tables.{all_below}
 use Rattle.base64.proofs.Tables.{all_below_at}
 use Rattle.base64.specs.GeneralPurpose.{IsBytes, decoded_of, encode_of}
@@ -12,10 +13,9 @@ use Rattle.base64.specs.Rfc4648.{encode_symbols, padding_len}
 use Rattle.base64.specs.Engines.{standard}
 use Rattle.base64.proofs.EngineFacts.{decode_of-encode_of, encode_of-append, front_bytes}
 use Rattle.esdk_fields.specs.Bytes.{AreBytes}
-use Rattle.whole_input.specs.Pieces.{most_input}
 use Rattle.armour_core.specs.Outlook.{Outlook, end_of, taken_front, text_outlook}
 use Rattle.armour_core.specs.ArmourText.{armour_text, in_lines, line_feed}
-use Rattle.armour_core.specs.Unarmoured.{GroupsRead, Unarmoured, behind, characters, group_count, group_then, groups_read, is_character, padding, unarmoured}
+use Rattle.armour_core.specs.Unarmoured.{GroupsRead, Unarmoured, groups_behind, characters, group_count, group_then, groups_read, is_character, padding, unarmoured}
 use Rattle.armour_core.specs.Laws.{AreLineBreaks, PassesLineBreaks, ReadsArmourText, TakesArmourText}
 use Rattle.armour_core.proofs.Groups.{read_nil}
 use Rattle.armour_core.specs.LineLaws.{encoded_length}
@@ -116,7 +116,7 @@ unfolding decoded_of
 decoded_again bytes are = ap result_ok (decode_of-encode_of standard bytes refl are)
 
 pub group_again : (n s0 s1 s2 s3 : ℕ) (bytes rest : List ℕ) → IsBytes bytes → encode_of standard bytes ≡ s0 ∷ s1 ∷ s2 ∷ s3 ∷ []
-    → groups_read n false (s0 ∷ s1 ∷ s2 ∷ s3 ∷ rest) ≡ behind bytes (groups_read (n + 1) (s3 == padding) rest)
+    → groups_read n false (s0 ∷ s1 ∷ s2 ∷ s3 ∷ rest) ≡ groups_behind bytes (groups_read (n + 1) (s3 == padding) rest)
 unfolding groups_read
 group_again n s0 s1 s2 s3 bytes rest are is =
     ap (λ (x : Option (List ℕ)). group_then n x (groups_read (n + 1) (s3 == padding) rest)) (ap (decoded_of standard) (sym is) ∙ decoded_again bytes are)
@@ -124,14 +124,14 @@ group_again n s0 s1 s2 s3 bytes rest are is =
 pub groups_again : (n : ℕ) (bytes : List ℕ) → IsBytes bytes → groups_read n false (encode_of standard bytes) ≡ record { bytes = bytes; bad = None }
 unfolding encode_symbols
 groups_again n [] are = read_nil n false
-groups_again n (a ∷ []) are = group_again n _ _ _ _ (a ∷ []) [] are refl ∙ ap (behind (a ∷ [])) (read_nil (n + 1) true)
-groups_again n (a ∷ b ∷ []) are = group_again n _ _ _ _ (a ∷ b ∷ []) [] are refl ∙ ap (behind (a ∷ b ∷ [])) (read_nil (n + 1) true)
+groups_again n (a ∷ []) are = group_again n _ _ _ _ (a ∷ []) [] are refl ∙ ap (groups_behind (a ∷ [])) (read_nil (n + 1) true)
+groups_again n (a ∷ b ∷ []) are = group_again n _ _ _ _ (a ∷ b ∷ []) [] are refl ∙ ap (groups_behind (a ∷ b ∷ [])) (read_nil (n + 1) true)
 groups_again n (a ∷ b ∷ c ∷ rest) are =
     let front : List ℕ = a ∷ b ∷ c ∷ [] in
     ap (groups_read n false) (encode_of-append standard front rest refl)
     ∙ group_again n _ _ _ _ front (encode_of standard rest) (front_bytes front rest are) refl
-    ∙ ap (λ (p : Bool). behind front (groups_read (n + 1) p (encode_of standard rest))) (no_padding (c % 64))
-    ∙ ap (behind front) (groups_again (n + 1) rest (λ i. are (suc (suc (suc i)))))
+    ∙ ap (λ (p : Bool). groups_behind front (groups_read (n + 1) p (encode_of standard rest))) (no_padding (c % 64))
+    ∙ ap (groups_behind front) (groups_again (n + 1) rest (λ i. are (suc (suc (suc i)))))
 
 -- the groups are whole
 encoded_whole : (bytes : List ℕ) → length (encode_of standard bytes) % 4 ≡ 0

@@ -5,8 +5,8 @@ use Rattle.std.proofs.Common.{◌≡◌, ◌⊎◌, ℕ, ◌+◌, ◌-◌, ◌^�
 use Rattle.std.specs.Option.{is_some}
 use Rattle.std.proofs.lemmas.Bool.{cases_lt, ne_eqb}
 use Rattle.std.proofs.lemmas.List.{append-nil, append_assoc, drop-drop, drop_all, length-append, length-drop, length-take-le, take-append-drop, take-append-le, take_all, take_at}
+use Rattle.esdk_base.specs.Streams.{most_input}
 use Rattle.base64.specs.GeneralPurpose.{IsBytes}
-use Rattle.whole_input.specs.Pieces.{most_input}
 use Rattle.armour_core.specs.declared.errors.ArmourError.{ArmourError}
 use Rattle.armour_core.specs.declared.reader.ArmourReader.{ArmourReader}
 use Rattle.armour_core.specs.declared.text_end.TextEnd.{TextEnd}
@@ -14,10 +14,10 @@ use Rattle.armour_core.specs.declared.text_end.TextEnd.TheVariants.{Bad, Whole}
 use Rattle.armour_core.specs.declared.unarmour.Unarmour.{Unarmour}
 use Rattle.armour_core.specs.Outlook.{Outlook, end_of, holds_some, open_of, read_out, taken_front, text_outlook, with_front}
 use Rattle.armour_core.specs.ReaderLaws.{with_both}
-use Rattle.armour_core.specs.ReaderOutlook.{coming, pending, reader_outlook, room_of, unread}
+use Rattle.armour_core.specs.ReaderOutlook.{coming, pending, reader_outlook, text_room, unread}
 use Rattle.armour_core.specs.Unarmoured.{GroupsRead, characters, group_count, groups_read, none_read, unarmoured}
 use Rattle.armour_core.specs.Unarmouring.{IsBadGroup, UnarmouringValue, bad_armour, end_answer, group_answer, group_stepped, new_unarmouring, text_ended}
-use Rattle.armour_core.specs.Stands.{OpenGroup, Reads, open_from}
+use Rattle.armour_core.specs.Stands.{OpenGroup, StandsReading, open_from}
 use Rattle.armour_core.proofs.Groups.{open_length, open_number}
 use Rattle.armour_core.proofs.Outlooks.{SameGroup, answer_err, same_outlook, step_bad, step_outlook}
 use Rattle.armour_core.proofs.Reachable.{reads_there, session_at}
@@ -25,18 +25,18 @@ use Rattle.armour_core.proofs.Reading.{end_even, end_short, end_stopped, even_wh
 use Rattle.armour_core.proofs.Stepping.{refuses_as}
 
 -- what the last call of a reader of armour gave
-pub out_there : (u : Unarmour) (out : List ℕ) → ((v : UnarmouringValue) → Reads u v → out ≡ v.out) → out ≡ take u.given u.bytes
+pub out_there : (u : Unarmour) (out : List ℕ) → ((v : UnarmouringValue) → StandsReading u v → out ≡ v.out) → out ≡ take u.given u.bytes
 unfolding session_at
 out_there u out is = is (session_at u) (reads_there u)
 
 -- an error of a step names a bad group
-pub bad_there : (u : Unarmour) (piece : List ℕ) (error : ArmourError) → u.stopped ≡ false → ((v : UnarmouringValue) → Reads u v → Err error ≡ group_answer v piece) → (number : ℕ) × IsBadGroup error number
+pub bad_there : (u : Unarmour) (piece : List ℕ) (error : ArmourError) → u.stopped ≡ false → ((v : UnarmouringValue) → StandsReading u v → Err error ≡ group_answer v piece) → (number : ℕ) × IsBadGroup error number
 unfolding session_at
 bad_there u piece error goes answer = let bad = answer_err (session_at u) piece error goes (answer (session_at u) (reads_there u)) in (min bad.number (2 ^ 64 - 1), bad.is)
 
 -- and leaves nothing
-pub nothing_there : (u new : Unarmour) (piece : List ℕ) (error : ArmourError) → u.stopped ≡ false → ((v : UnarmouringValue) → Reads u v → Err error ≡ group_answer v piece)
-    → ((v : UnarmouringValue) → Reads u v → Reads new (group_stepped v piece)) → take new.given new.bytes ≡ []
+pub nothing_there : (u new : Unarmour) (piece : List ℕ) (error : ArmourError) → u.stopped ≡ false → ((v : UnarmouringValue) → StandsReading u v → Err error ≡ group_answer v piece)
+    → ((v : UnarmouringValue) → StandsReading u v → StandsReading new (group_stepped v piece)) → take new.given new.bytes ≡ []
 unfolding session_at
 nothing_there u new piece error goes answer reads =
     let v : UnarmouringValue = session_at u in
@@ -57,17 +57,17 @@ pub slice_is : (r : ArmourReader) (xs : List ℕ) → xs ≡ r.pieces.piece → 
 slice_is r xs is = ap (λ (x : List ℕ). slice_of x r.at) is ∙ take_all (length r.pieces.piece - r.at) (unread r) (omega (arith, length-drop r.at r.pieces.piece))
 
 -- a group that is read
-pub group_read : (r new : ArmourReader) (used : ℕ) (slice : List ℕ) → pending r ≡ [] → r.ending ≡ None → slice ≡ unread r → ((v : UnarmouringValue) → Reads r.unarmour v → Ok used ≡ group_answer v slice)
-    → ((v : UnarmouringValue) → Reads r.unarmour v → Reads new.unarmour (group_stepped v slice)) → new.pieces ≡ r.pieces → new.at ≡ r.at + used → new.handed ≡ 0 → new.ending ≡ r.ending
+pub group_read : (r new : ArmourReader) (used : ℕ) (slice : List ℕ) → pending r ≡ [] → r.ending ≡ None → slice ≡ unread r → ((v : UnarmouringValue) → StandsReading r.unarmour v → Ok used ≡ group_answer v slice)
+    → ((v : UnarmouringValue) → StandsReading r.unarmour v → StandsReading new.unarmour (group_stepped v slice)) → new.pieces ≡ r.pieces → new.at ≡ r.at + used → new.handed ≡ 0 → new.ending ≡ r.ending
     → (text : List ℕ) → reader_outlook new text ≡ reader_outlook r text
 unfolding reader_outlook
 group_read r new used slice handed goes is answer reads pieces at none ending text =
-    let T : List ℕ = take (room_of r) text in
-    let long : Bool = nat_le (room_of r) (length text) in
+    let T : List ℕ = take (text_room r) text in
+    let long : Bool = nat_le (text_room r) (length text) in
     let rest : List ℕ = drop used slice in
     let step = step_outlook r.unarmour new.unarmour slice (rest ++ T) used long (r.goes goes) answer reads in
     let left : unread new ≡ rest = ap (λ (p : List ℕ). drop new.at p) (ap (λ p. p.piece) pieces) ∙ ap (λ (n : ℕ). drop n r.pieces.piece) at ∙ sym (drop-drop used r.at r.pieces.piece) ∙ ap (drop used) (sym is) in
-    let room : room_of new ≡ room_of r = ap (λ p. most_input - p.taken) pieces in
+    let room : text_room new ≡ text_room r = ap (λ p. most_input - p.taken) pieces in
     let cut : take used slice ++ (rest ++ T) ≡ unread r ++ T = sym (append_assoc (take used slice) rest T) ∙ ap (λ (x : List ℕ). x ++ T) (take-append-drop used slice ∙ is) in
     sym (outlook_goes r text handed goes ∙ ap (λ (x : List ℕ). read_out (open_of r.unarmour) x long) (sym cut) ∙ step.0
     ∙ ap (λ (x : List ℕ). with_front (take new.unarmour.given new.unarmour.bytes) (read_out (open_of new.unarmour) (x ++ T) long)) (sym left)
@@ -77,12 +77,12 @@ group_read r new used slice handed goes is answer reads pieces at none ending te
 
 -- a bad one
 pub group_bad : (r new : ArmourReader) (slice : List ℕ) (error : ArmourError) (number : ℕ) → pending r ≡ [] → r.ending ≡ None → slice ≡ unread r
-    → ((v : UnarmouringValue) → Reads r.unarmour v → Err error ≡ group_answer v slice) → IsBadGroup error number → take new.unarmour.given new.unarmour.bytes ≡ [] → new.handed ≡ 0 → new.ending ≡ Some (Bad number)
+    → ((v : UnarmouringValue) → StandsReading r.unarmour v → Err error ≡ group_answer v slice) → IsBadGroup error number → take new.unarmour.given new.unarmour.bytes ≡ [] → new.handed ≡ 0 → new.ending ≡ Some (Bad number)
     → (text : List ℕ) → reader_outlook new text ≡ reader_outlook r text
 unfolding reader_outlook
 group_bad r new slice error number handed goes is answer bad nothing none ending text =
-    let T : List ℕ = take (room_of r) text in
-    let long : Bool = nat_le (room_of r) (length text) in
+    let T : List ℕ = take (text_room r) text in
+    let long : Bool = nat_le (text_room r) (length text) in
     let empty : pending new ≡ [] = ap (λ (n : ℕ). drop n (take new.unarmour.given new.unarmour.bytes)) none ∙ nothing in
     sym (outlook_goes r text handed goes ∙ ap (λ (x : List ℕ). read_out (open_of r.unarmour) (x ++ T) long) (sym is) ∙ step_bad r.unarmour slice T long error number (r.goes goes) answer bad
     ∙ ap (λ (e : Option TextEnd). coming e new text) (sym ending) ∙ ap (λ (b : List ℕ). with_front b (coming new.ending new text)) (sym empty))
@@ -124,8 +124,8 @@ handed_outlook r new out count is pieces at unarmour ending handed text =
     same_coming : (r new : ArmourReader) (text : List ℕ) → new.pieces ≡ r.pieces → new.at ≡ r.at → new.unarmour ≡ r.unarmour → (e : Option TextEnd) → coming e new text ≡ coming e r text
     same_coming r new text pieces at unarmour (Some end) = refl
     same_coming r new text pieces at unarmour None =
-        ap (λ (u : Unarmour). read_out (open_of u) (unread new ++ take (room_of new) text) (nat_le (room_of new) (length text))) unarmour
-        ∙ ap (λ (n : ℕ). read_out (open_of r.unarmour) (drop n new.pieces.piece ++ take (room_of new) text) (nat_le (room_of new) (length text))) at
+        ap (λ (u : Unarmour). read_out (open_of u) (unread new ++ take (text_room new) text) (nat_le (text_room new) (length text))) unarmour
+        ∙ ap (λ (n : ℕ). read_out (open_of r.unarmour) (drop n new.pieces.piece ++ take (text_room new) text) (nat_le (text_room new) (length text))) at
         ∙ ap (λ p. read_out (open_of r.unarmour) (drop r.at p.piece ++ take (most_input - p.taken) text) (nat_le (most_input - p.taken) (length text))) pieces
 
 -- ---- the end of a text
@@ -155,7 +155,7 @@ no_more u long =
 held_size : (u : Unarmour) → length (open_of u).held ≡ u.held
 held_size u = length-take-le u.held u.group (omega (arith, u.state.few, u.state.size))
 
-pub ends_whole : (u : Unarmour) → u.stopped ≡ false → ((v : UnarmouringValue) → Reads u v → Ok tt ≡ end_answer v) → read_out (open_of u) [] false ≡ record { bytes = []; end = Whole }
+pub ends_whole : (u : Unarmour) → u.stopped ≡ false → ((v : UnarmouringValue) → StandsReading u v → Ok tt ≡ end_answer v) → read_out (open_of u) [] false ≡ record { bytes = []; end = Whole }
 unfolding session_at
 ends_whole u goes answer =
     let v : UnarmouringValue = session_at u in
@@ -172,7 +172,7 @@ pub record ShortThere (u : Unarmour) (error : ArmourError) : Type 0 where
   pub is : IsBadGroup error u.number
   pub ends : read_out (open_of u) [] false ≡ record { bytes = []; end = Bad u.number }
 
-pub ends_short : (u : Unarmour) (error : ArmourError) → u.stopped ≡ false → ((v : UnarmouringValue) → Reads u v → Err error ≡ end_answer v) → ShortThere u error
+pub ends_short : (u : Unarmour) (error : ArmourError) → u.stopped ≡ false → ((v : UnarmouringValue) → StandsReading u v → Err error ≡ end_answer v) → ShortThere u error
 unfolding session_at
 ends_short u error goes answer =
     let v : UnarmouringValue = session_at u in
@@ -197,7 +197,7 @@ ended_out v false true is short = ap (λ (w : UnarmouringValue). w.out) (end_sho
 ended_out v false false is even = ap (λ (w : UnarmouringValue). w.out) (end_even v is even).1
 
 -- after the end nothing is left of what was given
-pub end_empties : (u new : Unarmour) → ((v : UnarmouringValue) → Reads u v → Reads new (text_ended v)) → take new.given new.bytes ≡ []
+pub end_empties : (u new : Unarmour) → ((v : UnarmouringValue) → StandsReading u v → StandsReading new (text_ended v)) → take new.given new.bytes ≡ []
 end_empties u new reads = (reads (session_at u) (reads_there u)).out ∙ ended_out (session_at u) (session_at u).stopped (unarmoured (session_at u).taken).short refl refl
 
 -- where the text ended so
@@ -234,19 +234,19 @@ first_outlook text long =
     (λ some. let full : length o.held ≡ 0 → ⊥ = λ none. let e = sym some ∙ ap (λ (b : Bool). if b then false else true) (eq-eqb (length o.held) 0 none) in cc e in omega (arith, full, size, count)) in
     ap (λ (e : TextEnd). let l : Outlook = record { bytes = (groups_read 1 false cs).bytes; end = e } in l) end
 
-pub begins : (r : ArmourReader) → r.pieces.taken ≡ 0 → unread r ≡ [] → r.handed ≡ 0 → r.ending ≡ None → Reads r.unarmour new_unarmouring → (text : List ℕ) → reader_outlook r text ≡ text_outlook text
+pub begins : (r : ArmourReader) → r.pieces.taken ≡ 0 → unread r ≡ [] → r.handed ≡ 0 → r.ending ≡ None → StandsReading r.unarmour new_unarmouring → (text : List ℕ) → reader_outlook r text ≡ text_outlook text
 unfolding text_outlook open_from reader_outlook
 begins r taken none handed goes reads text =
     let holds = reads.group refl in
     let first : OpenGroup = record { number = 1; padded = false; held = [] } in
     let same : SameGroup (open_of r.unarmour) first = record { number = omega (arith, holds.number); padded = holds.padded; held = holds.held } in
-    let room : room_of r ≡ most_input = ap (λ (n : ℕ). most_input - n) taken in
+    let room : text_room r ≡ most_input = ap (λ (n : ℕ). most_input - n) taken in
     let front : List ℕ = taken_front text in
     let long : Bool = nat_le most_input (length text) in
     ap (λ (n : ℕ). with_front (drop n (take r.unarmour.given r.unarmour.bytes)) (coming r.ending r text)) handed
     ∙ ap (λ (b : List ℕ). with_front b (coming r.ending r text)) reads.out
     ∙ ap (λ (e : Option TextEnd). coming e r text) goes
-    ∙ ap (λ (x : List ℕ). read_out (open_of r.unarmour) (x ++ take (room_of r) text) (nat_le (room_of r) (length text))) none
+    ∙ ap (λ (x : List ℕ). read_out (open_of r.unarmour) (x ++ take (text_room r) text) (nat_le (text_room r) (length text))) none
     ∙ ap (λ (n : ℕ). read_out (open_of r.unarmour) (take n text) (nat_le n (length text))) room
     ∙ same_outlook (open_of r.unarmour) first front long same
     ∙ first_outlook front long
@@ -267,8 +267,8 @@ handed_over r new out rest copied old count is from copy within pieces at unarmo
     handed_outlook r new out count is pieces at unarmour ending handed text
     ∙ ap (λ (x : List ℕ). with_front x (reader_outlook new text)) (ap (take count) (sym from) ∙ sym (copied_is copied rest old count copy within))
 
-pub goes_on : (u new : Unarmour) (piece : List ℕ) (used : ℕ) → u.stopped ≡ false → ((v : UnarmouringValue) → Reads u v → Ok used ≡ group_answer v piece)
-    → ((v : UnarmouringValue) → Reads u v → Reads new (group_stepped v piece)) → new.stopped ≡ false
+pub goes_on : (u new : Unarmour) (piece : List ℕ) (used : ℕ) → u.stopped ≡ false → ((v : UnarmouringValue) → StandsReading u v → Ok used ≡ group_answer v piece)
+    → ((v : UnarmouringValue) → StandsReading u v → StandsReading new (group_stepped v piece)) → new.stopped ≡ false
 goes_on u new piece used goes answer reads = (step_outlook u new piece [] used false goes answer reads).1
 
 -- bytes behind those that stand there

@@ -11,9 +11,9 @@ use Rattle.esdk_fields.specs.declared.faults.Fault.TheVariants.{BadArmour}
 use Rattle.armour_core.specs.declared.errors.ArmourError.{ArmourError}
 use Rattle.armour_core.specs.declared.errors.ArmourError.TheVariants.{Fault, Stopped}
 use Rattle.armour_core.specs.declared.unarmour.Unarmour.{Unarmour}
-use Rattle.armour_core.specs.Unarmoured.{GroupsRead, Unarmoured, bad_at, behind, characters, group_count, group_then, groups_read, is_character, none_read, padding, unarmoured}
-use Rattle.armour_core.specs.Unarmouring.{UnarmouringValue, bad_armour, end_answer, gained, new_unarmouring, stopped_at, text_ended}
-use Rattle.armour_core.specs.Stands.{HoldsGroup, OpenGroup, Reads, RefusesByte, TakesByte, open_fault, open_from, open_group}
+use Rattle.armour_core.specs.Unarmoured.{GroupsRead, Unarmoured, bad_at, groups_behind, characters, group_count, group_then, groups_read, is_character, none_read, padding, unarmoured}
+use Rattle.armour_core.specs.Unarmouring.{UnarmouringValue, bad_armour, end_answer, gained, new_unarmouring, unarmouring_stopped, text_ended}
+use Rattle.armour_core.specs.Stands.{HoldsGroup, OpenGroup, StandsReading, RefusesByte, TakesByte, open_fault, open_from, open_group}
 use Rattle.armour_core.proofs.Groups.{full_open, full_read, open_append, open_length, open_number, open_on, padded_last, read_append, read_nil, read_on, short_open, short_read}
 
 -- what the groups of a text are read as
@@ -49,7 +49,7 @@ open_with : (text : List ℕ) (byte : ℕ) → is_character byte ≡ true → op
 open_with text byte taken = ap (open_from 1 false) (with_character text byte taken) ∙ open_append 1 false (characters text) (byte ∷ [])
 
 read_with : (text : List ℕ) (byte : ℕ) → is_character byte ≡ true → (unarmoured text).bad ≡ None
-    → read (text ++ byte ∷ []) ≡ behind (read text).bytes (read_on (open_group text) (byte ∷ []))
+    → read (text ++ byte ∷ []) ≡ groups_behind (read text).bytes (read_on (open_group text) (byte ∷ []))
 read_with text byte taken sound = ap (groups_read 1 false) (with_character text byte taken) ∙ read_append 1 false (characters text) (byte ∷ []) (sym (bad_read text) ∙ sound)
 
 -- what is given beyond a front that gives so much
@@ -119,7 +119,7 @@ character_held u new text byte size few none goes holds taken unpadded group_is 
     let count = open_length 1 false (characters text) in
     let is = open_with text byte taken ∙ short_open o.number o.padded o.held byte (omega (arith, few, len)) in
     let nothing = ap (λ (p : Bool). groups_read o.number p (o.held ++ byte ∷ [])) off ∙ short_read o.number o.held byte (omega (arith, few, len)) in
-    let all = read_with text byte taken holds.sound ∙ ap (behind (read text).bytes) nothing in record {
+    let all = read_with text byte taken holds.sound ∙ ap (groups_behind (read text).bytes) nothing in record {
       ends = sym (ap (λ (b : Bool). b && (length (characters text) % 4 == 3)) taken ∙ ne_eqb (length (characters text) % 4) 3 (λ full. absurd (omega (arith, full, few, len, count))));
       holds = record {
         number = number_is ∙ holds.number ∙ ap (λ (g : OpenGroup). min g.number (2 ^ 64 - 1)) (sym is);
@@ -172,7 +172,7 @@ group_taken u new text byte count size full goes holds taken unpadded decoded gi
     let chars = open_length 1 false (characters text) in
     let is = open_with text byte taken ∙ full_open o.number o.padded o.held byte (omega (arith, full, len)) in
     let good = read_full u text byte size full unpadded holds ∙ ap (λ (x : Option (List ℕ)). group_then o.number x none_read) decoded in
-    let all = read_with text byte taken holds.sound ∙ ap (behind (read text).bytes) good in record {
+    let all = read_with text byte taken holds.sound ∙ ap (groups_behind (read text).bytes) good in record {
       ends = sym (ap (λ (b : Bool). b && (length (characters text) % 4 == 3)) taken ∙ eq-eqb (length (characters text) % 4) 3 (omega (arith, full, len, chars)));
       holds = record {
         number = number_is ∙ omega (arith, holds.number) ∙ ap (λ (g : OpenGroup). min g.number (2 ^ 64 - 1)) (sym is);
@@ -188,7 +188,7 @@ group_taken u new text byte count size full goes holds taken unpadded decoded gi
 
 -- ---- the end
 
-pub new_reads : (u : Unarmour) → u.stopped ≡ false → u.number ≡ 1 → u.padded ≡ false → u.held ≡ 0 → u.given ≡ 0 → Reads u new_unarmouring
+pub new_reads : (u : Unarmour) → u.stopped ≡ false → u.number ≡ 1 → u.padded ≡ false → u.held ≡ 0 → u.given ≡ 0 → StandsReading u new_unarmouring
 unfolding unarmoured groups_read open_from
 new_reads u goes number padded held given = record {
   stopped = goes;
@@ -206,7 +206,7 @@ same_group u new text group held number padded holds = record {
 }
 
 -- a session that has stopped
-pub stays_stopped : (u : Unarmour) (v : UnarmouringValue) → u.stopped ≡ true → u.given ≡ 0 → Reads u (stopped_at v)
+pub stays_stopped : (u : Unarmour) (v : UnarmouringValue) → u.stopped ≡ true → u.given ≡ 0 → StandsReading u (unarmouring_stopped v)
 stays_stopped u v stopped given = record { stopped = stopped; group = λ goes. cc goes; out = ap (λ (n : ℕ). take n u.bytes) given }
 
 -- the text is short where some characters are held
@@ -233,11 +233,11 @@ short_fault u text size few holds some =
 
 -- ---- what the end answers
 
-pub end_stopped : (v : UnarmouringValue) → v.stopped ≡ true → (end_answer v ≡ Err Stopped) × (text_ended v ≡ stopped_at v)
+pub end_stopped : (v : UnarmouringValue) → v.stopped ≡ true → (end_answer v ≡ Err Stopped) × (text_ended v ≡ unarmouring_stopped v)
 unfolding end_answer text_ended
 end_stopped v stopped = (rw stopped refl, rw stopped refl)
 
-pub end_short : (v : UnarmouringValue) → v.stopped ≡ false → (unarmoured v.taken).short ≡ true → (end_answer v ≡ Err (bad_armour (group_count v.taken))) × (text_ended v ≡ stopped_at v)
+pub end_short : (v : UnarmouringValue) → v.stopped ≡ false → (unarmoured v.taken).short ≡ true → (end_answer v ≡ Err (bad_armour (group_count v.taken))) × (text_ended v ≡ unarmouring_stopped v)
 unfolding end_answer text_ended
 end_short v goes short = (rw (goes, short) refl, rw (goes, short) refl)
 

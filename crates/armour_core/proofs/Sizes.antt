@@ -5,13 +5,13 @@ use Rattle.std.specs.Result.{result_ok}
 use Rattle.std.proofs.lemmas.List.{length-append, length-take}
 use Rattle.std.proofs.lemmas.List.Filters.{length-filter_both}
 use Rattle.std.proofs.lemmas.Bool.{ltb-false}
+use Rattle.esdk_base.specs.Streams.{most_input}
 use Rattle.base64.specs.Decode.{bytes_fit, decode_error, decode_outcome, decoded_bytes, groups_before_last, groups_error, lone_error, or_else, or_error, suffix_error}
 use Rattle.base64.specs.declared.decode.DecodeError.{DecodeError}
 use Rattle.base64.specs.declared.decode.DecodeSliceError.TheVariants.{OutputSliceTooSmall}
 use Rattle.base64.proofs.Decoding.{slice_result_room}
 use Rattle.base64.specs.GeneralPurpose.{decoded_of}
 use Rattle.base64.specs.Engines.{standard}
-use Rattle.whole_input.specs.Pieces.{most_input}
 use Rattle.armour_core.specs.Outlook.{taken_front, text_outlook}
 use Rattle.armour_core.specs.Unarmoured.{GroupsRead, characters, group_then, groups_read, is_character, padding, unarmoured}
 

@@ -14,7 +14,7 @@ use Rattle.armour_core.specs.declared.text_end.TextEnd.{TextEnd}
 use Rattle.armour_core.specs.declared.text_end.TextEnd.TheVariants.{Whole}
 use Rattle.armour_core.specs.Outlook.{Outlook, with_front}
 use Rattle.armour_core.specs.ReaderLaws.{gives_behind, reads_more, reads_none}
-use Rattle.armour_core.specs.ReaderOutlook.{Awaits, EndsAs, FailsAs, IsWanted, KeepsOutlook, Outlasts, ReadsOn, TakesPiece, coming, gives, pending, reader_outlook, room_of, told_end, turns_left}
+use Rattle.armour_core.specs.ReaderOutlook.{Awaits, EndsAs, FailsAs, IsWanted, KeepsOutlook, Outlasts, ArmourReadsOn, TakesPiece, coming, gives, pending, reader_outlook, text_room, told_end, text_turns_left}
 
 -- ---- what is kept
 
@@ -34,7 +34,7 @@ same_end (Some text) s t same = ap (λ (e : TextEnd). Some e) (sym (same text))
 
 -- bytes that are handed on of the last piece
 pub hands_on : (input : SourceState) (s t : ArmourReader) (front : List ℕ) → ((text : List ℕ) → reader_outlook s text ≡ with_front front (reader_outlook t text)) → t.pieces ≡ s.pieces → (t.ending ≡ None → s.ending ≡ None)
-    → (t.ending ≡ Some Whole → s.ending ≡ Some Whole) → ReadsOn input input s t front
+    → (t.ending ≡ Some Whole → s.ending ≡ Some Whole) → ArmourReadsOn input input s t front
 hands_on input s t front handed pieces goes whole = record {
   text = [];
   came = came_none input;
@@ -148,17 +148,17 @@ failed_outlasts before now r s given gave k n came comes ended ends awaits fails
 
 -- ---- the turns of the loop
 
-pub turns_fall : (s next t : ArmourReader) → s.ending ≡ None → next.pieces ≡ s.pieces → s.pieces.taken ≤ t.pieces.taken → (t.ending ≡ None → next.pieces.taken < t.pieces.taken) → turns_left t < turns_left s
+pub turns_fall : (s next t : ArmourReader) → s.ending ≡ None → next.pieces ≡ s.pieces → s.pieces.taken ≤ t.pieces.taken → (t.ending ≡ None → next.pieces.taken < t.pieces.taken) → text_turns_left t < text_turns_left s
 turns_fall s next t goes pieces later falls =
-    let one : turns_left s ≡ 2 * room_of s + 1 = ap (λ (e : Option TextEnd). 2 * room_of s + (if is_none e then 1 else 0)) goes in
+    let one : text_turns_left s ≡ 2 * text_room s + 1 = ap (λ (e : Option TextEnd). 2 * text_room s + (if is_none e then 1 else 0)) goes in
     by_end t.ending refl one
   where
-    by_end : (e : Option TextEnd) → t.ending ≡ e → turns_left s ≡ 2 * room_of s + 1 → turns_left t < turns_left s
+    by_end : (e : Option TextEnd) → t.ending ≡ e → text_turns_left s ≡ 2 * text_room s + 1 → text_turns_left t < text_turns_left s
     by_end None is one =
-        let two : turns_left t ≡ 2 * room_of t + 1 = ap (λ (e : Option TextEnd). 2 * room_of t + (if is_none e then 1 else 0)) is in
+        let two : text_turns_left t ≡ 2 * text_room t + 1 = ap (λ (e : Option TextEnd). 2 * text_room t + (if is_none e then 1 else 0)) is in
         omega (arith, one, two, falls is, ap (λ p. p.taken) pieces, t.most)
     by_end (Some end) is one =
-        let two : turns_left t ≡ 2 * room_of t + 0 = ap (λ (e : Option TextEnd). 2 * room_of t + (if is_none e then 1 else 0)) is in
+        let two : text_turns_left t ≡ 2 * text_room t + 0 = ap (λ (e : Option TextEnd). 2 * text_room t + (if is_none e then 1 else 0)) is in
         omega (arith, one, two, later)
 
 -- ---- what a read leaves

@@ -8,8 +8,8 @@ use Rattle.armour_core.specs.declared.errors.ArmourError.{ArmourError}
 use Rattle.armour_core.specs.declared.errors.ArmourError.TheVariants.{Stopped}
 use Rattle.armour_core.specs.declared.unarmour.Unarmour.{Unarmour}
 use Rattle.armour_core.specs.Unarmoured.{GroupsRead, Unarmoured, characters, groups_read, is_character, unarmoured}
-use Rattle.armour_core.specs.Unarmouring.{UnarmouringValue, answer_where, bad_armour, bytes_with, gained, group_answer, group_stepped, stepped_where, stopped_at, text_with, used_of}
-use Rattle.armour_core.specs.Stands.{HoldsGroup, Reads, RefusesByte, TakesByte, ends_group, open_group}
+use Rattle.armour_core.specs.Unarmouring.{UnarmouringValue, answer_where, bad_armour, bytes_with, gained, group_answer, group_stepped, stepped_where, unarmouring_stopped, text_with, used_in_piece}
+use Rattle.armour_core.specs.Stands.{HoldsGroup, StandsReading, RefusesByte, TakesByte, ends_group, open_group}
 use Rattle.armour_core.proofs.Groups.{read_append, read_no_more, read_on}
 use Rattle.armour_core.proofs.Reading.{bad_read, bytes_read, gained_none, same_group, stays_stopped, with_break, with_character}
 
@@ -58,13 +58,13 @@ with_byte byte (suc n) rest some = let back : suc n - 1 ≡ n = omega arith in a
 pub record Stepping (v : UnarmouringValue) (piece : List ℕ) (u : Unarmour) (used : ℕ) : Type 0 where
   pub holds : HoldsGroup u (v.taken ++ take used piece)
   pub same : (unarmoured (v.taken ++ take used piece)).bytes ≡ (unarmoured v.taken).bytes
-  pub left : used_of v piece ≡ used + bytes_with (drop used piece) (4 - length (characters (v.taken ++ take used piece)) % 4)
+  pub left : used_in_piece v piece ≡ used + bytes_with (drop used piece) (4 - length (characters (v.taken ++ take used piece)) % 4)
 
 pub record InStep (u0 u : Unarmour) (piece : List ℕ) (used : ℕ) : Type 0 where
   pub goes : u.stopped ≡ false
   pub none : u.given ≡ 0
   pub within : used ≤ length piece
-  pub steps : (v : UnarmouringValue) → Reads u0 v → v.stopped ≡ false → Stepping v piece u used
+  pub steps : (v : UnarmouringValue) → StandsReading u0 v → v.stopped ≡ false → Stepping v piece u used
 
 pub step_begins : (u0 u : Unarmour) (piece : List ℕ) → u.group ≡ u0.group → u.held ≡ u0.held → u.number ≡ u0.number → u.padded ≡ u0.padded → u.stopped ≡ false → u.given ≡ 0 → InStep u0 u piece 0
 step_begins u0 u piece group held number padded goes none = record {
@@ -151,43 +151,43 @@ step_goes_on u0 u new piece used byte step within is takes goes none = record {
 -- ---- how it ends
 
 -- the step's answer and session, where no group is bad in what it takes
-pub goes_as : (v : UnarmouringValue) (piece : List ℕ) (used : ℕ) → v.stopped ≡ false → used_of v piece ≡ used → (unarmoured (v.taken ++ take used piece)).bad ≡ None
+pub goes_as : (v : UnarmouringValue) (piece : List ℕ) (used : ℕ) → v.stopped ≡ false → used_in_piece v piece ≡ used → (unarmoured (v.taken ++ take used piece)).bad ≡ None
     → (group_answer v piece ≡ Ok used) × (group_stepped v piece ≡ record { taken = v.taken ++ take used piece; stopped = false; out = gained v.taken (v.taken ++ take used piece) })
 unfolding group_answer group_stepped
 goes_as v piece used on is sound =
     let text : text_with v piece ≡ v.taken ++ take used piece = ap (λ (n : ℕ). v.taken ++ take n piece) is in
     let none : (unarmoured (text_with v piece)).bad ≡ None = ap (λ (t : List ℕ). (unarmoured t).bad) text ∙ sound in (
-      ap (λ (b : Bool). if b then Err Stopped else answer_where (unarmoured (text_with v piece)).bad (used_of v piece)) on
-          ∙ ap (λ (x : Option ℕ). answer_where x (used_of v piece)) none ∙ ap (λ (n : ℕ). let r : Result ℕ ArmourError = Ok n in r) is,
-      ap (λ (b : Bool). if b then stopped_at v else stepped_where (unarmoured (text_with v piece)).bad v (text_with v piece)) on
+      ap (λ (b : Bool). if b then Err Stopped else answer_where (unarmoured (text_with v piece)).bad (used_in_piece v piece)) on
+          ∙ ap (λ (x : Option ℕ). answer_where x (used_in_piece v piece)) none ∙ ap (λ (n : ℕ). let r : Result ℕ ArmourError = Ok n in r) is,
+      ap (λ (b : Bool). if b then unarmouring_stopped v else stepped_where (unarmoured (text_with v piece)).bad v (text_with v piece)) on
           ∙ ap (λ (x : Option ℕ). stepped_where x v (text_with v piece)) none
           ∙ ap (λ (t : List ℕ). let w : UnarmouringValue = record { taken = t; stopped = false; out = gained v.taken t } in w) text,
     )
 
 -- where one is
 pub refuses_as : (v : UnarmouringValue) (piece : List ℕ) (number : ℕ) → v.stopped ≡ false → (unarmoured (text_with v piece)).bad ≡ Some number
-    → (group_answer v piece ≡ Err (bad_armour number)) × (group_stepped v piece ≡ stopped_at v)
+    → (group_answer v piece ≡ Err (bad_armour number)) × (group_stepped v piece ≡ unarmouring_stopped v)
 unfolding group_answer group_stepped
 refuses_as v piece number on bad = (
-  ap (λ (b : Bool). if b then Err Stopped else answer_where (unarmoured (text_with v piece)).bad (used_of v piece)) on ∙ ap (λ (x : Option ℕ). answer_where x (used_of v piece)) bad,
-  ap (λ (b : Bool). if b then stopped_at v else stepped_where (unarmoured (text_with v piece)).bad v (text_with v piece)) on ∙ ap (λ (x : Option ℕ). stepped_where x v (text_with v piece)) bad,
+  ap (λ (b : Bool). if b then Err Stopped else answer_where (unarmoured (text_with v piece)).bad (used_in_piece v piece)) on ∙ ap (λ (x : Option ℕ). answer_where x (used_in_piece v piece)) bad,
+  ap (λ (b : Bool). if b then unarmouring_stopped v else stepped_where (unarmoured (text_with v piece)).bad v (text_with v piece)) on ∙ ap (λ (x : Option ℕ). stepped_where x v (text_with v piece)) bad,
 )
 
-pub step_stopped : (v : UnarmouringValue) (piece : List ℕ) → v.stopped ≡ true → (group_answer v piece ≡ Err Stopped) × (group_stepped v piece ≡ stopped_at v)
+pub step_stopped : (v : UnarmouringValue) (piece : List ℕ) → v.stopped ≡ true → (group_answer v piece ≡ Err Stopped) × (group_stepped v piece ≡ unarmouring_stopped v)
 unfolding group_answer group_stepped
 step_stopped v piece stopped = (
-  ap (λ (b : Bool). if b then Err Stopped else answer_where (unarmoured (text_with v piece)).bad (used_of v piece)) stopped,
-  ap (λ (b : Bool). if b then stopped_at v else stepped_where (unarmoured (text_with v piece)).bad v (text_with v piece)) stopped,
+  ap (λ (b : Bool). if b then Err Stopped else answer_where (unarmoured (text_with v piece)).bad (used_in_piece v piece)) stopped,
+  ap (λ (b : Bool). if b then unarmouring_stopped v else stepped_where (unarmoured (text_with v piece)).bad v (text_with v piece)) stopped,
 )
 
 -- What a step answers and leaves.
 pub record StepAnswers (u0 : Unarmour) (piece : List ℕ) (new : Unarmour) (result : Result ℕ ArmourError) : Type 0 where
-  pub answer : (v : UnarmouringValue) → Reads u0 v → result ≡ group_answer v piece
-  pub reads : (v : UnarmouringValue) → Reads u0 v → Reads new (group_stepped v piece)
+  pub answer : (v : UnarmouringValue) → StandsReading u0 v → result ≡ group_answer v piece
+  pub reads : (v : UnarmouringValue) → StandsReading u0 v → StandsReading new (group_stepped v piece)
 
 -- where the session goes on
 answers_on : (u0 new : Unarmour) (piece : List ℕ) (result : Result ℕ ArmourError) → u0.stopped ≡ false
-    → ((v : UnarmouringValue) → Reads u0 v → v.stopped ≡ false → (result ≡ group_answer v piece) × Reads new (group_stepped v piece)) → StepAnswers u0 piece new result
+    → ((v : UnarmouringValue) → StandsReading u0 v → v.stopped ≡ false → (result ≡ group_answer v piece) × StandsReading new (group_stepped v piece)) → StepAnswers u0 piece new result
 answers_on u0 new piece result on each = record {
   answer = λ v reads. (each v reads (sym reads.stopped ∙ on)).0;
   reads = λ v reads. (each v reads (sym reads.stopped ∙ on)).1;
@@ -197,11 +197,11 @@ answers_on u0 new piece result on each = record {
 pub step_ends : (u0 u : Unarmour) (piece : List ℕ) (used : ℕ) → u0.stopped ≡ false → InStep u0 u piece used → length piece ≤ used → StepAnswers u0 piece u (Ok used)
 step_ends u0 u piece used on step all = answers_on u0 u piece (Ok used) on (λ v reads goes.
     let s = step.steps v reads goes in
-    let count : used_of v piece ≡ used = s.left ∙ ap (λ (r : List ℕ). used + bytes_with r (4 - length (characters (v.taken ++ take used piece)) % 4)) (drop_all used piece all)
+    let count : used_in_piece v piece ≡ used = s.left ∙ ap (λ (r : List ℕ). used + bytes_with r (4 - length (characters (v.taken ++ take used piece)) % 4)) (drop_all used piece all)
     ∙ ap (λ (n : ℕ). used + n) (none_left (4 - length (characters (v.taken ++ take used piece)) % 4)) ∙ omega arith in
     let is_so = goes_as v piece used goes count s.holds.sound in
     let nothing : gained v.taken (v.taken ++ take used piece) ≡ [] = same_gained v _ _ s.same ∙ gained_none (v.taken ++ take used piece) in
-    (sym is_so.0, subst (Reads u) (sym is_so.1) (record { stopped = step.goes; group = λ _. s.holds; out = ap (λ (n : ℕ). take n u.bytes) step.none ∙ sym nothing })))
+    (sym is_so.0, subst (StandsReading u) (sym is_so.1) (record { stopped = step.goes; group = λ _. s.holds; out = ap (λ (n : ℕ). take n u.bytes) step.none ∙ sym nothing })))
 
 -- a byte of the piece ends the group
 pub step_gives : (u0 u new : Unarmour) (piece : List ℕ) (used byte : ℕ) → u0.stopped ≡ false → InStep u0 u piece used → used < length piece → byte ≡ slice_index piece used
@@ -211,12 +211,12 @@ step_gives u0 u new piece used byte on step within is takes = answers_on u0 new 
     let text : List ℕ = v.taken ++ take used piece in
     let t = takes text s.holds in
     let more = text_more v piece used byte within is in
-    let count : used_of v piece ≡ used + 1 = s.left ∙ ap (λ (r : List ℕ). used + bytes_with r (4 - length (characters text) % 4)) (piece_left piece used byte within is)
+    let count : used_in_piece v piece ≡ used + 1 = s.left ∙ ap (λ (r : List ℕ). used + bytes_with r (4 - length (characters text) % 4)) (piece_left piece used byte within is)
     ∙ ap (λ (n : ℕ). used + n) (count_ends text byte (drop (used + 1) piece) t.ends) in
     let holds = subst (HoldsGroup new) (sym more) t.holds in
     let is_so = goes_as v piece (used + 1) goes count holds.sound in
     let out : take new.given new.bytes ≡ gained v.taken (v.taken ++ take (used + 1) piece) = t.out ∙ ap (gained text) (sym more) ∙ sym (same_gained v text _ s.same) in
-    (sym is_so.0, subst (Reads new) (sym is_so.1) (record { stopped = t.goes; group = λ _. holds; out = out })))
+    (sym is_so.0, subst (StandsReading new) (sym is_so.1) (record { stopped = t.goes; group = λ _. holds; out = out })))
 
 -- a byte of the piece makes the group bad
 pub step_refuses : (u0 u new : Unarmour) (piece : List ℕ) (used byte : ℕ) (error : ArmourError) → u0.stopped ≡ false → InStep u0 u piece used → used < length piece → byte ≡ slice_index piece used
@@ -227,7 +227,7 @@ step_refuses u0 u new piece used byte error on step within is refuses = answers_
     let r = refuses text s.holds in
     let k = counted text byte (drop (used + 1) piece) in
     let rest : List ℕ = drop (used + 1) piece in
-    let count : used_of v piece ≡ used + 1 + k.0 = s.left ∙ ap (λ (x : List ℕ). used + bytes_with x (4 - length (characters text) % 4)) (piece_left piece used byte within is)
+    let count : used_in_piece v piece ≡ used + 1 + k.0 = s.left ∙ ap (λ (x : List ℕ). used + bytes_with x (4 - length (characters text) % 4)) (piece_left piece used byte within is)
     ∙ ap (λ (n : ℕ). used + n) k.1 ∙ omega arith in
     let cut : take (used + 1 + k.0) piece ≡ take (used + 1) piece ++ take k.0 rest = take-add (used + 1) k.0 piece in
     let all : text_with v piece ≡ (text ++ byte ∷ []) ++ take k.0 rest =
@@ -236,4 +236,4 @@ step_refuses u0 u new piece used byte error on step within is refuses = answers_
     let bad : (unarmoured (text_with v piece)).bad ≡ Some r.number =
     ap (λ (t : List ℕ). (unarmoured t).bad) all ∙ ap (λ (x : Unarmoured). x.bad) (stays_bad (text ++ byte ∷ []) (take k.0 rest) r.number r.bad) ∙ r.bad in
     let is_so = refuses_as v piece r.number goes bad in
-    (ap (λ (e : ArmourError). let x : Result ℕ ArmourError = Err e in x) r.error_is ∙ sym is_so.0, subst (Reads new) (sym is_so.1) (stays_stopped new v r.stops r.given)))
+    (ap (λ (e : ArmourError). let x : Result ℕ ArmourError = Err e in x) r.error_is ∙ sym is_so.0, subst (StandsReading new) (sym is_so.1) (stays_stopped new v r.stops r.given)))

@@ -6,8 +6,8 @@ use Rattle.std.proofs.lemmas.Bool.{cases_lt, eqb-true, le-leb, lt-leb}
 use Rattle.std.specs.Prelude.{IfSome}
 use Rattle.std.proofs.lemmas.List.{drop_all, length-append}
 use Rattle.std.proofs.Math.Seq.{drop-nil, take-append-add, take-nil}
-use Rattle.esdk_base.specs.Streams.{SourceState}
-use Rattle.whole_input.specs.Pieces.{NextPiece, PiecesValue, most_input, most_piece}
+use Rattle.esdk_base.specs.Streams.{SourceState, most_input}
+use Rattle.whole_input.specs.Pieces.{NextPiece, PiecesValue, most_piece}
 use Rattle.whole_input.specs.declared.pieces.End.{End}
 use Rattle.whole_input.specs.declared.pieces.End.TheVariants as ends
 use Rattle.whole_input.specs.Taken.{Came}
@@ -17,7 +17,7 @@ use Rattle.armour_core.specs.declared.text_end.TextEnd.{TextEnd}
 use Rattle.armour_core.specs.declared.text_end.TextEnd.TheVariants.{TooLong, Whole}
 use Rattle.armour_core.specs.declared.unarmour.Unarmour.{Unarmour}
 use Rattle.armour_core.specs.Outlook.{Outlook, open_of, read_out, with_front}
-use Rattle.armour_core.specs.ReaderOutlook.{EndsAs, IsOver, IsSpent, KeepsOutlook, TakesPiece, coming, gives, pending, reader_outlook, room_of, told_end, unread}
+use Rattle.armour_core.specs.ReaderOutlook.{EndsAs, TextIsOver, TextIsSpent, KeepsOutlook, TakesPiece, coming, gives, pending, reader_outlook, text_room, told_end, unread}
 use Rattle.armour_core.proofs.Readers.{no_more}
 
 -- ---- what a source tells
@@ -40,7 +40,7 @@ end_kept (Some text) before now r new is keeps end told =
 
 -- what a reader takes by one read that goes on, where the same is to come behind it
 pub takes_as : (before now : SourceState) (r new : ArmourReader) (text : List ℕ) → Came before now text → length text ≤ most_piece → new.pieces.taken ≡ r.pieces.taken + length text → KeepsOutlook before now r new
-    → r.ending ≡ None → (new.ending ≡ Some Whole → now.ended ≡ true) → ((more : List ℕ) → (IsOver new → now.ended ≡ true → more ≡ []) → reader_outlook r (text ++ more) ≡ reader_outlook new more)
+    → r.ending ≡ None → (new.ending ≡ Some Whole → now.ended ≡ true) → ((more : List ℕ) → (TextIsOver new → now.ended ≡ true → more ≡ []) → reader_outlook r (text ++ more) ≡ reader_outlook new more)
     → TakesPiece before now r new
 takes_as before now r new text came few taken keeps goes seen all = record {
   reads = record {
@@ -63,21 +63,21 @@ same_le k a b = elim (cases_lt b a) [
   | inr le ↦ le-leb (k + a) (k + b) (omega (arith, le)) ∙ sym (le-leb a b le)
 ]
 
-spent_outlook : (r : ArmourReader) (text : List ℕ) → IsSpent r → r.ending ≡ None → reader_outlook r text ≡ read_out (open_of r.unarmour) (take (room_of r) text) (nat_le (room_of r) (length text))
+spent_outlook : (r : ArmourReader) (text : List ℕ) → TextIsSpent r → r.ending ≡ None → reader_outlook r text ≡ read_out (open_of r.unarmour) (take (text_room r) text) (nat_le (text_room r) (length text))
 unfolding reader_outlook
 spent_outlook r text spent goes =
     ap (λ (b : List ℕ). with_front b (coming r.ending r text)) spent.handed ∙ ap (λ (e : Option TextEnd). coming e r text) goes
-    ∙ ap (λ (x : List ℕ). read_out (open_of r.unarmour) (x ++ take (room_of r) text) (nat_le (room_of r) (length text))) (spent.read goes)
+    ∙ ap (λ (x : List ℕ). read_out (open_of r.unarmour) (x ++ take (text_room r) text) (nat_le (text_room r) (length text))) (spent.read goes)
 
 -- nothing is to come of no more text
-pub spent_gives : (r : ArmourReader) → IsSpent r → gives r [] ≡ 0
+pub spent_gives : (r : ArmourReader) → TextIsSpent r → gives r [] ≡ 0
 unfolding reader_outlook
 spent_gives r spent = by_end r.ending refl
   where
     by_end : (e : Option TextEnd) → r.ending ≡ e → gives r [] ≡ 0
     by_end None goes =
         ap (λ (o : Outlook). length o.bytes)
-        (spent_outlook r [] spent goes ∙ ap (λ (x : List ℕ). read_out (open_of r.unarmour) x (nat_le (room_of r) 0)) (take-nil (room_of r)) ∙ no_more r.unarmour (nat_le (room_of r) 0))
+        (spent_outlook r [] spent goes ∙ ap (λ (x : List ℕ). read_out (open_of r.unarmour) x (nat_le (text_room r) 0)) (take-nil (text_room r)) ∙ no_more r.unarmour (nat_le (text_room r) 0))
     by_end (Some end) is = ap (λ (b : List ℕ). length (b ++ (coming r.ending r []).bytes)) spent.handed ∙ ap (λ (e : Option TextEnd). length (coming e r []).bytes) is
 
 -- or of any text behind the end that was seen
@@ -97,7 +97,7 @@ some_or_none r some = by_end r.ending refl
     by_end (Some end) is = inr (ended_gives r end is)
 
 -- a reader that saw how the text ends has handed all bytes on
-over_spent : (r : ArmourReader) → IsOver r → gives r [] ≡ 0
+over_spent : (r : ArmourReader) → TextIsOver r → gives r [] ≡ 0
 over_spent r over = by_end r.ending refl
   where
     by_end : (e : Option TextEnd) → r.ending ≡ e → gives r [] ≡ 0
@@ -108,7 +108,7 @@ over_spent r over = by_end r.ending refl
 pub ends_as : (s t : ArmourReader) (count room : ℕ) (ended : Bool) → 1 ≤ room → (s.ending ≡ None → 1 ≤ length (pending s)) → (t.ending ≡ None → s.ending ≡ None)
     → (1 ≤ length (pending s) → 1 ≤ room → 1 ≤ count) → EndsAs t ended (count == 0)
 ends_as s t count room ended some has goes gives nothing =
-    let over : IsOver t = λ none. let one : 1 ≤ count = gives (has (goes none)) some in absurd (omega (arith, one, eqb-true count 0 nothing)) in
+    let over : TextIsOver t = λ none. let one : 1 ≤ count = gives (has (goes none)) some in absurd (omega (arith, one, eqb-true count 0 nothing)) in
     inr (over, over_spent t over)
 
 pub when_ended : (r : ArmourReader) (e : Option TextEnd) → r.ending ≡ e → IfSome e (λ end. gives r [] ≡ 0)
@@ -123,46 +123,46 @@ pub record SameReading (r new : ArmourReader) : Type 0 where
 none_pending : (r new : ArmourReader) → SameReading r new → pending r ≡ [] → pending new ≡ []
 none_pending r new same none = ap (λ (n : ℕ). drop n (take new.unarmour.given new.unarmour.bytes)) same.handed ∙ ap (λ (u : Unarmour). drop r.handed (take u.given u.bytes)) same.unarmour ∙ none
 
-pub piece_taken : (r new : ArmourReader) (piece text rest : List ℕ) → IsSpent r → r.ending ≡ None → SameReading r new → new.ending ≡ None → unread new ≡ piece → new.pieces.taken ≡ r.pieces.taken + length piece
+pub piece_taken : (r new : ArmourReader) (piece text rest : List ℕ) → TextIsSpent r → r.ending ≡ None → SameReading r new → new.ending ≡ None → unread new ≡ piece → new.pieces.taken ≡ r.pieces.taken + length piece
     → text ≡ piece ++ rest → reader_outlook new rest ≡ reader_outlook r text
 unfolding reader_outlook
 piece_taken r new piece text rest spent goes same on is taken cut =
-    let room : room_of r ≡ length piece + room_of new = omega (arith, taken, new.most) in
-    let front : take (room_of r) text ≡ piece ++ take (room_of new) rest = ap (λ (n : ℕ). take n text) room ∙ ap (take (length piece + room_of new)) cut ∙ take-append-add piece rest (room_of new) in
+    let room : text_room r ≡ length piece + text_room new = omega (arith, taken, new.most) in
+    let front : take (text_room r) text ≡ piece ++ take (text_room new) rest = ap (λ (n : ℕ). take n text) room ∙ ap (take (length piece + text_room new)) cut ∙ take-append-add piece rest (text_room new) in
     let size : length text ≡ length piece + length rest = ap length cut ∙ length-append piece rest in
-    let long : nat_le (room_of r) (length text) ≡ nat_le (room_of new) (length rest) = ap (λ (n : ℕ). nat_le n (length text)) room ∙ ap (nat_le (length piece + room_of new)) size ∙ same_le (length piece) (room_of new) (length rest) in
-    sym (spent_outlook r text spent goes ∙ ap (λ (x : List ℕ). read_out (open_of r.unarmour) x (nat_le (room_of r) (length text))) front ∙ ap (read_out (open_of r.unarmour) (piece ++ take (room_of new) rest)) long
-    ∙ ap (λ (u : Unarmour). read_out (open_of u) (piece ++ take (room_of new) rest) (nat_le (room_of new) (length rest))) (sym same.unarmour)
-    ∙ ap (λ (x : List ℕ). read_out (open_of new.unarmour) (x ++ take (room_of new) rest) (nat_le (room_of new) (length rest))) (sym is)
+    let long : nat_le (text_room r) (length text) ≡ nat_le (text_room new) (length rest) = ap (λ (n : ℕ). nat_le n (length text)) room ∙ ap (nat_le (length piece + text_room new)) size ∙ same_le (length piece) (text_room new) (length rest) in
+    sym (spent_outlook r text spent goes ∙ ap (λ (x : List ℕ). read_out (open_of r.unarmour) x (nat_le (text_room r) (length text))) front ∙ ap (read_out (open_of r.unarmour) (piece ++ take (text_room new) rest)) long
+    ∙ ap (λ (u : Unarmour). read_out (open_of u) (piece ++ take (text_room new) rest) (nat_le (text_room new) (length rest))) (sym same.unarmour)
+    ∙ ap (λ (x : List ℕ). read_out (open_of new.unarmour) (x ++ take (text_room new) rest) (nat_le (text_room new) (length rest))) (sym is)
     ∙ ap (λ (e : Option TextEnd). coming e new rest) (sym on) ∙ ap (λ (b : List ℕ). with_front b (coming new.ending new rest)) (sym (none_pending r new same spent.handed)))
 
-pub piece_keeps : (before now : SourceState) (r new : ArmourReader) (piece : List ℕ) → IsSpent r → r.ending ≡ None → SameReading r new → new.ending ≡ None → unread new ≡ piece → new.pieces.taken ≡ r.pieces.taken + length piece
+pub piece_keeps : (before now : SourceState) (r new : ArmourReader) (piece : List ℕ) → TextIsSpent r → r.ending ≡ None → SameReading r new → new.ending ≡ None → unread new ≡ piece → new.pieces.taken ≡ r.pieces.taken + length piece
     → Came before now piece → KeepsOutlook before now r new
 piece_keeps before now r new piece spent goes same on is taken came text told =
     let c = consumed before.left now.left piece text came.consumed told in (c.0, c.1, piece_taken r new piece text c.0 spent goes same on is taken c.2)
 
 -- ---- too much of it
 
-too_long_outlook : (r new : ArmourReader) → IsSpent r → r.ending ≡ None → SameReading r new → new.ending ≡ Some TooLong → r.pieces.taken ≡ most_input → (text : List ℕ) → reader_outlook new text ≡ reader_outlook r text
+too_long_outlook : (r new : ArmourReader) → TextIsSpent r → r.ending ≡ None → SameReading r new → new.ending ≡ Some TooLong → r.pieces.taken ≡ most_input → (text : List ℕ) → reader_outlook new text ≡ reader_outlook r text
 unfolding reader_outlook
 too_long_outlook r new spent goes same ending taken text =
-    let room : room_of r ≡ 0 = omega (arith, taken) in
+    let room : text_room r ≡ 0 = omega (arith, taken) in
     sym (spent_outlook r text spent goes ∙ ap (λ (n : ℕ). read_out (open_of r.unarmour) (take n text) (nat_le n (length text))) room ∙ ap (read_out (open_of r.unarmour) []) (le-leb 0 (length text) (omega arith))
     ∙ no_more r.unarmour true ∙ ap (λ (e : Option TextEnd). coming e new text) (sym ending) ∙ ap (λ (b : List ℕ). with_front b (coming new.ending new text)) (sym (none_pending r new same spent.handed)))
 
-pub too_long_keeps : (before now : SourceState) (r new : ArmourReader) → IsSpent r → r.ending ≡ None → SameReading r new → new.ending ≡ Some TooLong → now ≡ before → r.pieces.taken ≡ most_input → KeepsOutlook before now r new
+pub too_long_keeps : (before now : SourceState) (r new : ArmourReader) → TextIsSpent r → r.ending ≡ None → SameReading r new → new.ending ≡ Some TooLong → now ≡ before → r.pieces.taken ≡ most_input → KeepsOutlook before now r new
 too_long_keeps before now r new spent goes same ending still taken text told = (text, ap (λ (s : SourceState). s.left) still ∙ told, too_long_outlook r new spent goes same ending taken text)
 
 -- ---- its end
 
-end_outlook : (r new : ArmourReader) → IsSpent r → r.ending ≡ None → ((text : List ℕ) → reader_outlook new text ≡ read_out (open_of r.unarmour) [] false) → r.pieces.taken < most_input
+end_outlook : (r new : ArmourReader) → TextIsSpent r → r.ending ≡ None → ((text : List ℕ) → reader_outlook new text ≡ read_out (open_of r.unarmour) [] false) → r.pieces.taken < most_input
     → (rest text : List ℕ) → text ≡ [] → reader_outlook new rest ≡ reader_outlook r text
 end_outlook r new spent goes ends few rest text none =
-    let short : nat_le (room_of r) 0 ≡ false = lt-leb (room_of r) 0 (omega (arith, few)) in
-    ends rest ∙ sym (spent_outlook r text spent goes ∙ ap (λ (t : List ℕ). read_out (open_of r.unarmour) (take (room_of r) t) (nat_le (room_of r) (length t))) none
-    ∙ ap (λ (t : List ℕ). read_out (open_of r.unarmour) t (nat_le (room_of r) 0)) (take-nil (room_of r)) ∙ ap (read_out (open_of r.unarmour) []) short)
+    let short : nat_le (text_room r) 0 ≡ false = lt-leb (text_room r) 0 (omega (arith, few)) in
+    ends rest ∙ sym (spent_outlook r text spent goes ∙ ap (λ (t : List ℕ). read_out (open_of r.unarmour) (take (text_room r) t) (nat_le (text_room r) (length t))) none
+    ∙ ap (λ (t : List ℕ). read_out (open_of r.unarmour) t (nat_le (text_room r) 0)) (take-nil (text_room r)) ∙ ap (read_out (open_of r.unarmour) []) short)
 
-pub end_keeps : (before now : SourceState) (r new : ArmourReader) → IsSpent r → r.ending ≡ None → ((text : List ℕ) → reader_outlook new text ≡ read_out (open_of r.unarmour) [] false) → r.pieces.taken < most_input
+pub end_keeps : (before now : SourceState) (r new : ArmourReader) → TextIsSpent r → r.ending ≡ None → ((text : List ℕ) → reader_outlook new text ≡ read_out (open_of r.unarmour) [] false) → r.pieces.taken < most_input
     → Came before now [] → IsAtEnd now.left → KeepsOutlook before now r new
 end_keeps before now r new spent goes ends few came end text told =
     let c = consumed before.left now.left [] text came.consumed told in
@@ -173,7 +173,7 @@ end_keeps before now r new spent goes ends few came end text told =
 pub came_still : (before now : SourceState) → now ≡ before → Came before now []
 came_still before now same = subst (λ (s : SourceState). Came before s []) (sym same) (came_none before)
 
-pub piece_takes : (before now : SourceState) (r new : ArmourReader) (piece : List ℕ) → IsSpent r → r.ending ≡ None → SameReading r new → new.ending ≡ None → unread new ≡ piece → new.pieces.taken ≡ r.pieces.taken + length piece
+pub piece_takes : (before now : SourceState) (r new : ArmourReader) (piece : List ℕ) → TextIsSpent r → r.ending ≡ None → SameReading r new → new.ending ≡ None → unread new ≡ piece → new.pieces.taken ≡ r.pieces.taken + length piece
     → length piece ≤ most_piece → Came before now piece → TakesPiece before now r new
 piece_takes before now r new piece spent goes same on is taken few came =
     takes_as before now r new piece came few taken (piece_keeps before now r new piece spent goes same on is taken came) goes
@@ -185,26 +185,26 @@ module _ (before now : SourceState) (r new : ArmourReader) (end : End) where
   pub failed_next : (v : PiecesValue) → end ≡ ends.Failed → NextPiece {T = Unit {0}} r.pieces.taken before now v (Err end) → NextPiece {T = Unit {0}} r.pieces.taken before now v (Err ends.Failed)
   failed_next v is next = subst (λ (e : End). NextPiece {T = Unit {0}} r.pieces.taken before now v (Err e)) is next
 
-  pub failed_keeps : end ≡ ends.Failed → NextPiece {T = Unit {0}} r.pieces.taken before now new.pieces (Err end) → new.pieces.piece ≡ [] → IsSpent r → r.ending ≡ None → SameReading r new → new.ending ≡ None → KeepsOutlook before now r new
+  pub failed_keeps : end ≡ ends.Failed → NextPiece {T = Unit {0}} r.pieces.taken before now new.pieces (Err end) → new.pieces.piece ≡ [] → TextIsSpent r → r.ending ≡ None → SameReading r new → new.ending ≡ None → KeepsOutlook before now r new
   failed_keeps is next none spent goes same on =
       let n = failed_next new.pieces is next in
       piece_keeps before now r new [] spent goes same on (ap (drop new.at) none ∙ drop-nil new.at) (omega (arith, n.3)) n.0
 
-  pub failed_takes : end ≡ ends.Failed → NextPiece {T = Unit {0}} r.pieces.taken before now new.pieces (Err end) → new.pieces.piece ≡ [] → IsSpent r → r.ending ≡ None → SameReading r new → new.ending ≡ None → TakesPiece before now r new
+  pub failed_takes : end ≡ ends.Failed → NextPiece {T = Unit {0}} r.pieces.taken before now new.pieces (Err end) → new.pieces.piece ≡ [] → TextIsSpent r → r.ending ≡ None → SameReading r new → new.ending ≡ None → TakesPiece before now r new
   failed_takes is next none spent goes same on =
       let n = failed_next new.pieces is next in
       piece_takes before now r new [] spent goes same on (ap (drop new.at) none ∙ drop-nil new.at) (omega (arith, n.3)) (omega arith) n.0
 
-  pub failed_spent : new.pieces.piece ≡ [] → IsSpent r → SameReading r new → gives new [] ≡ 0
+  pub failed_spent : new.pieces.piece ≡ [] → TextIsSpent r → SameReading r new → gives new [] ≡ 0
   failed_spent none spent same = spent_gives new (record { handed = none_pending r new same spent.handed; read = λ _. ap (drop new.at) none ∙ drop-nil new.at })
 
   long_next : (v : PiecesValue) → end ≡ ends.TooLong → NextPiece {T = Unit {0}} r.pieces.taken before now v (Err end) → NextPiece {T = Unit {0}} r.pieces.taken before now v (Err ends.TooLong)
   long_next v is next = subst (λ (e : End). NextPiece {T = Unit {0}} r.pieces.taken before now v (Err e)) is next
 
-  pub long_keeps : end ≡ ends.TooLong → NextPiece {T = Unit {0}} r.pieces.taken before now new.pieces (Err end) → IsSpent r → r.ending ≡ None → SameReading r new → new.ending ≡ Some TooLong → KeepsOutlook before now r new
+  pub long_keeps : end ≡ ends.TooLong → NextPiece {T = Unit {0}} r.pieces.taken before now new.pieces (Err end) → TextIsSpent r → r.ending ≡ None → SameReading r new → new.ending ≡ Some TooLong → KeepsOutlook before now r new
   long_keeps is next spent goes same ending = let n = long_next new.pieces is next in too_long_keeps before now r new spent goes same ending n.0 n.1
 
-  pub long_takes : end ≡ ends.TooLong → NextPiece {T = Unit {0}} r.pieces.taken before now new.pieces (Err end) → IsSpent r → r.ending ≡ None → SameReading r new → new.ending ≡ Some TooLong → TakesPiece before now r new
+  pub long_takes : end ≡ ends.TooLong → NextPiece {T = Unit {0}} r.pieces.taken before now new.pieces (Err end) → TextIsSpent r → r.ending ≡ None → SameReading r new → new.ending ≡ Some TooLong → TakesPiece before now r new
   long_takes is next spent goes same ending =
       let n = long_next new.pieces is next in
       takes_as before now r new [] (came_still before now n.0) (omega arith) (omega (arith, n.2)) (long_keeps is next spent goes same ending) goes
@@ -213,10 +213,10 @@ module _ (before now : SourceState) (r new : ArmourReader) (end : End) where
   seen_next : (v : PiecesValue) → end ≡ ends.Seen → NextPiece {T = Unit {0}} r.pieces.taken before now v (Err end) → NextPiece {T = Unit {0}} r.pieces.taken before now v (Err ends.Seen)
   seen_next v is next = subst (λ (e : End). NextPiece {T = Unit {0}} r.pieces.taken before now v (Err e)) is next
 
-  pub seen_keeps : (v : PiecesValue) → end ≡ ends.Seen → NextPiece {T = Unit {0}} r.pieces.taken before now v (Err end) → IsSpent r → r.ending ≡ None → ((text : List ℕ) → reader_outlook new text ≡ read_out (open_of r.unarmour) [] false) → KeepsOutlook before now r new
+  pub seen_keeps : (v : PiecesValue) → end ≡ ends.Seen → NextPiece {T = Unit {0}} r.pieces.taken before now v (Err end) → TextIsSpent r → r.ending ≡ None → ((text : List ℕ) → reader_outlook new text ≡ read_out (open_of r.unarmour) [] false) → KeepsOutlook before now r new
   seen_keeps v is next spent goes ended = let n = seen_next v is next in end_keeps before now r new spent goes ended n.3 n.0 n.1
 
-  pub seen_takes : (v : PiecesValue) → end ≡ ends.Seen → NextPiece {T = Unit {0}} r.pieces.taken before now v (Err end) → new.pieces ≡ v → IsSpent r → r.ending ≡ None → ((text : List ℕ) → reader_outlook new text ≡ read_out (open_of r.unarmour) [] false) → IsOver new
+  pub seen_takes : (v : PiecesValue) → end ≡ ends.Seen → NextPiece {T = Unit {0}} r.pieces.taken before now v (Err end) → new.pieces ≡ v → TextIsSpent r → r.ending ≡ None → ((text : List ℕ) → reader_outlook new text ≡ read_out (open_of r.unarmour) [] false) → TextIsOver new
       → TakesPiece before now r new
   seen_takes v is next same spent goes ended over =
       let n = seen_next v is next in

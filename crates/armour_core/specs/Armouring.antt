@@ -1,5 +1,6 @@
 -- Bytes that are armoured piece by piece: what a session is worth, and what each call makes of it.
-use Rattle.std.specs.Prelude.{ℕ, ◌-◌, ◌*◌, ◌/◌, ◌%◌, ◌==◌, List, [], ◌++◌, length, take, drop, min, Bool, true, false, if◌then◌else◌}
+use Rattle.std.specs.Prelude.{ℕ, ◌-◌, ◌*◌, ◌/◌, ◌%◌, ◌==◌, List, [], ◌++◌, length, take, drop, min}
+use Rattle.std.specs.Prelude.{Bool, true, false, if◌then◌else◌}
 use Rattle.armour_core.specs.ArmourText.{armour_text}
 
 -- What a session is worth: the bytes that were taken, whether it was finished, and what the last

@@ -2,22 +2,24 @@
 use Rattle.std.specs.Prelude.{◌≡◌, ◌<◌, ◌^◌, ℕ, List, [], ◌∷◌, ◌++◌, length, take, All, false, None}
 use Rattle.esdk_fields.specs.Bytes.{AreBytes}
 use Rattle.armour_core.specs.ArmourText.{armour_text}
-use Rattle.armour_core.specs.Armouring.{ArmouringValue, in_full_lines, line_ended, line_stepped, new_armouring, open_line}
+use Rattle.armour_core.specs.Armouring.{ArmouringValue, in_full_lines, line_ended, line_stepped}
+use Rattle.armour_core.specs.Armouring.{new_armouring, open_line}
 use Rattle.armour_core.specs.ArmouredOutput.{full_lines_text}
 use Rattle.armour_core.specs.Outlook.{text_outlook}
 use Rattle.armour_core.specs.declared.text_end.TextEnd.TheVariants.{Whole}
 use Rattle.armour_core.specs.Unarmoured.{Unarmoured, is_character, unarmoured}
-use Rattle.armour_core.specs.Unarmouring.{UnarmouringValue, group_stepped, new_unarmouring, text_ended}
+use Rattle.armour_core.specs.Unarmouring.{UnarmouringValue, group_stepped, new_unarmouring}
+use Rattle.armour_core.specs.Unarmouring.{text_ended}
 
 -- ---- the text
 
 -- a text that gives these bytes, with no bad and no short group
-abbrev pub gives_all : List ℕ → Unarmoured
-gives_all bytes = record { bytes = bytes; bad = None; short = false }
+abbrev pub gives_all_bytes : List ℕ → Unarmoured
+gives_all_bytes bytes = record { bytes = bytes; bad = None; short = false }
 
 abbrev pub ReadsArmourText : Type 0
 ReadsArmourText = (bytes : List ℕ) → AreBytes bytes
-    → unarmoured (armour_text bytes) ≡ gives_all bytes
+    → unarmoured (armour_text bytes) ≡ gives_all_bytes bytes
 
 -- line feeds and carriage returns alone
 abbrev pub AreLineBreaks : List ℕ → Type 0
@@ -66,31 +68,31 @@ ArmoursAnyCut = (pieces : List (List ℕ))
 -- ---- reading armour, any cut
 
 -- A call: a step with this piece, or `finish`.
-pub data Call : Type 0 where
-  Step : (piece : List ℕ) → Call
-  Finish : Call
+pub data ArmourCall : Type 0 where
+  Step : (piece : List ℕ) → ArmourCall
+  Finish : ArmourCall
 
-abbrev pub after_call : UnarmouringValue → Call → UnarmouringValue
-after_call v (Step piece) = group_stepped v piece
-after_call v Finish = text_ended v
+abbrev pub after_armour_call : UnarmouringValue → ArmourCall → UnarmouringValue
+after_armour_call v (Step piece) = group_stepped v piece
+after_armour_call v Finish = text_ended v
 
 -- the session after these calls
-unfoldable pub after_calls : List Call → UnarmouringValue → UnarmouringValue
+unfoldable pub after_calls : List ArmourCall → UnarmouringValue → UnarmouringValue
 after_calls [] v = v
-after_calls (call ∷ calls) v = after_calls calls (after_call v call)
+after_calls (call ∷ calls) v = after_calls calls (after_armour_call v call)
 
 -- what they give, one after another
-unfoldable pub given_by_calls : List Call → UnarmouringValue → List ℕ
+unfoldable pub given_by_calls : List ArmourCall → UnarmouringValue → List ℕ
 given_by_calls [] v = []
 given_by_calls (call ∷ calls) v =
-    (after_call v call).out ++ given_by_calls calls (after_call v call)
+    (after_armour_call v call).out ++ given_by_calls calls (after_armour_call v call)
 
 -- Whatever the calls, what they give is what the text gives that was taken, and none of its groups
 -- is bad.
-pub record UnarmoursAnyCutOf (calls : List Call) (v : UnarmouringValue) : Type 0 where
+pub record UnarmoursAnyCutOf (calls : List ArmourCall) (v : UnarmouringValue) : Type 0 where
   pub given : given_by_calls calls new_unarmouring ≡ (unarmoured v.taken).bytes
   pub sound : (unarmoured v.taken).bad ≡ None
 
 abbrev pub UnarmoursAnyCut : Type 0
-UnarmoursAnyCut = (calls : List Call)
+UnarmoursAnyCut = (calls : List ArmourCall)
     → UnarmoursAnyCutOf calls (after_calls calls new_unarmouring)

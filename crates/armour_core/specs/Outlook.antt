@@ -1,10 +1,12 @@
 -- What is to come of a text that is read as armour, and how it ends.
-use Rattle.std.specs.Prelude.{ℕ, ◌-◌, ◌^◌, ◌==◌, nat_le, min, List, ◌++◌, length, take, Bool, true, false, Option, Some, None, if◌then◌else◌}
-use Rattle.whole_input.specs.Pieces.{most_input}
+use Rattle.std.specs.Prelude.{ℕ, ◌-◌, ◌^◌, ◌==◌, nat_le, min, List, ◌++◌, length, take, Bool, true}
+use Rattle.std.specs.Prelude.{false, Option, Some, None, if◌then◌else◌}
+use Rattle.esdk_base.specs.Streams.{most_input}
 use Rattle.armour_core.specs.declared.text_end.TextEnd.{TextEnd}
 use Rattle.armour_core.specs.declared.text_end.TextEnd.TheVariants.{Bad, TooLong, Whole}
 use Rattle.armour_core.specs.declared.unarmour.Unarmour.{Unarmour}
-use Rattle.armour_core.specs.Unarmoured.{GroupsRead, characters, group_count, groups_read, unarmoured}
+use Rattle.armour_core.specs.Unarmoured.{GroupsRead, characters, group_count, groups_read}
+use Rattle.armour_core.specs.Unarmoured.{unarmoured}
 use Rattle.armour_core.specs.Stands.{OpenGroup, open_from}
 
 -- The bytes that a text gives, and how it ends.

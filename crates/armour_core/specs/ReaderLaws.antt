@@ -1,6 +1,8 @@
 -- A reader of a source's text keeps the laws of sources, which an `impl` can cite from specs/
 -- alone.
-use Rattle.std.proofs.Common.{◌≡◌, ◌⊎◌, ℕ, ◌+◌, ◌-◌, ◌^◌, ◌≤◌, Bool, true, List, [], ◌∷◌, ◌++◌, length, Option, Some, None, refl, sym, ap, ◌∙◌, arith, inl, inr, append_assoc}
+use Rattle.std.proofs.Common.{◌≡◌, ◌⊎◌, ℕ, ◌+◌, ◌-◌, ◌^◌, ◌≤◌, Bool, true, List, [], ◌∷◌, ◌++◌}
+use Rattle.std.proofs.Common.{length, Option, Some, None, refl, sym, ap, ◌∙◌, arith, inl, inr}
+use Rattle.std.proofs.Common.{append_assoc}
 use Rattle.std.proofs.lemmas.List.{append-nil, length-append}
 use Rattle.std.proofs.lemmas.Bool.{cases_lt}
 use Rattle.whole_input.proofs.Coming.{came_more, came_none}
@@ -9,7 +11,8 @@ use Rattle.armour_core.specs.declared.reader.ArmourReader.{ArmourReader}
 use Rattle.armour_core.specs.declared.text_end.TextEnd.{TextEnd}
 use Rattle.armour_core.specs.declared.text_end.TextEnd.TheVariants.{Whole}
 use Rattle.armour_core.specs.Outlook.{Outlook, with_front}
-use Rattle.armour_core.specs.ReaderOutlook.{EndsAs, FailsAs, IsOver, IsWanted, Outlasts, ReadsOn, coming, gives, reader_outlook}
+use Rattle.armour_core.specs.ReaderOutlook.{EndsAs, FailsAs, TextIsOver, IsWanted, Outlasts}
+use Rattle.armour_core.specs.ReaderOutlook.{ArmourReadsOn, coming, gives, reader_outlook}
 
 -- ---- text that is read on
 
@@ -24,7 +27,8 @@ with_both a b l =
     ap (λ (x : List ℕ). let o : Outlook = record { bytes = x; end = l.end } in o)
     (sym (append_assoc a b l.bytes))
 
-unfoldable pub reads_none : (input : SourceState) (r : ArmourReader) → ReadsOn input input r r []
+unfoldable pub reads_none : (input : SourceState) (r : ArmourReader)
+    → ArmourReadsOn input input r r []
 reads_none input r = record {
   text = [];
   came = came_none input;
@@ -36,8 +40,9 @@ reads_none input r = record {
 }
 
 -- a text that is called whole behind an end that was seen before was whole there
-pub seen_more : (a b c : SourceState) (r s t : ArmourReader) (h k : List ℕ) → ReadsOn a b r s h
-    → ReadsOn b c s t k → r.ending ≡ None → t.ending ≡ Some Whole → c.ended ≡ true
+pub seen_more : (a b c : SourceState) (r s t : ArmourReader) (h k : List ℕ)
+    → ArmourReadsOn a b r s h
+    → ArmourReadsOn b c s t k → r.ending ≡ None → t.ending ≡ Some Whole → c.ended ≡ true
 seen_more a b c r s t h k one two goes whole = by_end s.ending refl
   where
     by_end : (e : Option TextEnd) → s.ending ≡ e → c.ended ≡ true
@@ -51,7 +56,7 @@ seen_more a b c r s t h k one two goes whole = by_end s.ending refl
         ∙ one.seen goes (is ∙ ap (λ (e : TextEnd). Some e) same)
 
 unfoldable pub reads_more : (a b c : SourceState) (r s t : ArmourReader) (h k : List ℕ)
-    → ReadsOn a b r s h → ReadsOn b c s t k → ReadsOn a c r t (h ++ k)
+    → ArmourReadsOn a b r s h → ArmourReadsOn b c s t k → ArmourReadsOn a c r t (h ++ k)
 reads_more a b c r s t h k one two = record {
   text = one.text ++ two.text;
   came = came_more a b c one.text two.text one.came two.came;
@@ -72,8 +77,9 @@ reads_more a b c r s t h k one two = record {
 }
 
 -- so many bytes are to come before and behind
-pub gives_all : (a b : SourceState) (r s : ArmourReader) (h : List ℕ) (reads : ReadsOn a b r s h)
-    → (more : List ℕ) → (IsOver s → b.ended ≡ true → more ≡ [])
+pub gives_all : (a b : SourceState) (r s : ArmourReader) (h : List ℕ)
+    (reads : ArmourReadsOn a b r s h)
+    → (more : List ℕ) → (TextIsOver s → b.ended ≡ true → more ≡ [])
     → gives r (reads.text ++ more) ≡ length h + gives s more
 gives_all a b r s h reads more may =
     ap (λ (o : Outlook). length o.bytes) (reads.all more may)
@@ -81,13 +87,13 @@ gives_all a b r s h reads more may =
 
 -- what is to come behind the text that was read
 pub outlook_behind : (a b : SourceState) (r s : ArmourReader) (h : List ℕ)
-    (reads : ReadsOn a b r s h)
+    (reads : ArmourReadsOn a b r s h)
     → reader_outlook r reads.text ≡ with_front h (reader_outlook s [])
 outlook_behind a b r s h reads =
     ap (reader_outlook r) (sym (append-nil reads.text)) ∙ reads.all [] (λ _ _. refl)
 
 pub gives_behind : (a b : SourceState) (r s : ArmourReader) (h : List ℕ)
-    (reads : ReadsOn a b r s h) → gives r reads.text ≡ length h + gives s []
+    (reads : ArmourReadsOn a b r s h) → gives r reads.text ≡ length h + gives s []
 gives_behind a b r s h reads =
     ap (λ (o : Outlook). length o.bytes) (outlook_behind a b r s h reads)
     ∙ length-append h (reader_outlook s []).bytes
@@ -100,7 +106,7 @@ front_nil (x ∷ front) piece none = cc none
 
 -- text that is read on behind a front
 wanted_later : (a b c : SourceState) (r s t : ArmourReader) (h k : List ℕ)
-    (one : ReadsOn a b r s h) (two : ReadsOn b c s t k) → IsWanted s two.text (length k)
+    (one : ArmourReadsOn a b r s h) (two : ArmourReadsOn b c s t k) → IsWanted s two.text (length k)
     → IsWanted r (one.text ++ two.text) (length (h ++ k))
 wanted_later a b c r s t h k one two (inl all) =
     let whole = gives_all a b r s h one two.text (λ over _. (two.over over).0) in
@@ -119,7 +125,7 @@ wanted_later a b c r s t h k one two (inr last) =
 
 -- no text is read on
 pub wanted_before : (a b c : SourceState) (r s t : ArmourReader) (h k : List ℕ)
-    (one : ReadsOn a b r s h) (two : ReadsOn b c s t k) → two.text ≡ []
+    (one : ArmourReadsOn a b r s h) (two : ArmourReadsOn b c s t k) → two.text ≡ []
     → IsWanted r one.text (length h) → IsWanted r (one.text ++ two.text) (length (h ++ k))
 wanted_before a b c r s t h k one two none (inl all) =
     let same : one.text ++ two.text ≡ one.text =
@@ -144,7 +150,7 @@ wanted_before a b c r s t h k one two none (inr last) = inr (record {
 })
 
 wanted_more : (a b c : SourceState) (r s t : ArmourReader) (h k : List ℕ)
-    (one : ReadsOn a b r s h) (two : ReadsOn b c s t k)
+    (one : ArmourReadsOn a b r s h) (two : ArmourReadsOn b c s t k)
     → (one.text ≡ []) ⊎ IsWanted r one.text (length h)
     → (two.text ≡ []) ⊎ IsWanted s two.text (length k)
     → (one.text ++ two.text ≡ []) ⊎ IsWanted r (one.text ++ two.text) (length (h ++ k))
@@ -185,19 +191,19 @@ fails_more a b c k m n one two = record {
 -- ---- the end of the source over it
 
 ends_more : (b c : SourceState) (s t : ArmourReader) (k : List ℕ) (u v w : Bool)
-    → ReadsOn b c s t k → EndsAs s u v → EndsAs t v w → EndsAs t u w
+    → ArmourReadsOn b c s t k → EndsAs s u v → EndsAs t v w → EndsAs t u w
 ends_more b c s t k u v w two first second ended = by_last (second ended)
   where
-    by_first : (u ≡ true) ⊎ (IsOver s × (gives s [] ≡ 0))
-        → (u ≡ true) ⊎ (IsOver t × (gives t [] ≡ 0))
+    by_first : (u ≡ true) ⊎ (TextIsOver s × (gives s [] ≡ 0))
+        → (u ≡ true) ⊎ (TextIsOver t × (gives t [] ≡ 0))
     by_first (inl before) = inl before
     by_first (inr seen) =
         let over = two.over seen.0 in
         let rest = gives_behind b c s t k two in
         inr (over.1, omega (arith, ap (gives s) over.0, rest, seen.1))
 
-    by_last : (v ≡ true) ⊎ (IsOver t × (gives t [] ≡ 0))
-        → (u ≡ true) ⊎ (IsOver t × (gives t [] ≡ 0))
+    by_last : (v ≡ true) ⊎ (TextIsOver t × (gives t [] ≡ 0))
+        → (u ≡ true) ⊎ (TextIsOver t × (gives t [] ≡ 0))
     by_last (inl before) = by_first (first before)
     by_last (inr seen) = inr seen
 

@@ -1,5 +1,6 @@
 -- When an armour or its reader stands for a session.
-use Rattle.std.specs.Prelude.{◌≡◌, ℕ, ◌+◌, ◌-◌, ◌^◌, ◌%◌, ◌==◌, List, [], ◌∷◌, ◌++◌, length, take, min, Bool, true, false, ◌&&◌, Some, None, Result, Ok, Err}
+use Rattle.std.specs.Prelude.{◌≡◌, ℕ, ◌+◌, ◌-◌, ◌^◌, ◌%◌, ◌==◌, List, [], ◌∷◌, ◌++◌, length, take}
+use Rattle.std.specs.Prelude.{min, Bool, true, false, ◌&&◌, Some, None, Result, Ok, Err}
 use Rattle.esdk_fields.specs.declared.faults.Fault.TheVariants.{BadArmour}
 use Rattle.armour_core.specs.declared.armour.Armour.{Armour}
 use Rattle.armour_core.specs.declared.unarmour.Unarmour.{Unarmour}
@@ -19,8 +20,8 @@ pub record Stands (armour : Armour) (v : ArmouringValue) : Type 0 where
   pub out : take armour.given armour.text ≡ v.out
 
 -- `finish` wasn't called
-abbrev pub IsOpen : Armour → Type 0
-IsOpen armour = armour.finished ≡ false
+abbrev pub ArmourIsOpen : Armour → Type 0
+ArmourIsOpen armour = armour.finished ≡ false
 
 -- ---- reading armour
 
@@ -51,7 +52,7 @@ abbrev pub open_fault : Unarmour → ArmourError
 open_fault unarmour = Fault (BadArmour unarmour.number)
 
 -- It has the open group, until the session stops, and what the last call gave.
-pub record Reads (unarmour : Unarmour) (v : UnarmouringValue) : Type 0 where
+pub record StandsReading (unarmour : Unarmour) (v : UnarmouringValue) : Type 0 where
   pub stopped : unarmour.stopped ≡ v.stopped
   pub group : v.stopped ≡ false → HoldsGroup unarmour v.taken
   pub out : take unarmour.given unarmour.bytes ≡ v.out

@@ -1,7 +1,8 @@
 -- What a text gives that is read as armour. Standard: RFC 4648, section 4: with padding, no
 -- characters beside those of the alphabet, and no bits left over. Line feeds and carriage returns
 -- are passed over.
-use Rattle.std.specs.Prelude.{ℕ, ◌+◌, ◌%◌, ◌/◌, ◌==◌, Bool, true, false, not, ◌&&◌, List, [], ◌∷◌, ◌++◌, length, Option, Some, None}
+use Rattle.std.specs.Prelude.{ℕ, ◌+◌, ◌%◌, ◌/◌, ◌==◌, Bool, true, false, not, ◌&&◌, List, [], ◌∷◌}
+use Rattle.std.specs.Prelude.{◌++◌, length, Option, Some, None}
 use Rattle.std.specs.List.{filter}
 use Rattle.base64.specs.GeneralPurpose.{decoded_of}
 use Rattle.base64.specs.Engines.{standard}
@@ -31,14 +32,14 @@ abbrev pub bad_at : ℕ → GroupsRead
 bad_at number = record { bytes = []; bad = Some number }
 
 -- these bytes, and then what is read behind them
-abbrev pub behind : List ℕ → GroupsRead → GroupsRead
-behind bytes read = record { bytes = bytes ++ read.bytes; bad = read.bad }
+abbrev pub groups_behind : List ℕ → GroupsRead → GroupsRead
+groups_behind bytes read = record { bytes = bytes ++ read.bytes; bad = read.bad }
 
 -- a group of four characters, which is the base64 of 1 to 3 bytes or bad, and what is read behind
 -- it
 abbrev pub group_then : ℕ → Option (List ℕ) → GroupsRead → GroupsRead
 group_then number None after = bad_at number
-group_then number (Some bytes) after = behind bytes after
+group_then number (Some bytes) after = groups_behind bytes after
 
 -- Characters in groups of four, of which the first has this number: one is bad where it isn't
 -- base64, and at its first character where an earlier group had padding.

@@ -1,6 +1,8 @@
 -- A text that is read as armour piece by piece: what a session is worth, and what each call makes
 -- of it.
-use Rattle.std.specs.Prelude.{◌≡◌, ℕ, zero, suc, ◌+◌, ◌-◌, ◌^◌, ◌%◌, List, [], ◌∷◌, ◌++◌, length, take, drop, min, Bool, true, false, if◌then◌else◌, Option, Some, None, Result, Ok, Err}
+use Rattle.std.specs.Prelude.{◌≡◌, ℕ, zero, suc, ◌+◌, ◌-◌, ◌^◌, ◌%◌, List, [], ◌∷◌, ◌++◌, length}
+use Rattle.std.specs.Prelude.{take, drop, min, Bool, true, false, if◌then◌else◌, Option, Some, None}
+use Rattle.std.specs.Prelude.{Result, Ok, Err}
 use Rattle.esdk_fields.specs.declared.faults.Fault.TheVariants.{BadArmour}
 use Rattle.armour_core.specs.declared.errors.ArmourError.{ArmourError}
 use Rattle.armour_core.specs.declared.errors.ArmourError.TheVariants.{Fault, Stopped}
@@ -26,8 +28,8 @@ abbrev pub IsBadGroup : ArmourError → ℕ → Type 0
 IsBadGroup error number = error ≡ Fault (BadArmour number)
 
 -- an error stops the session, and gives nothing
-abbrev pub stopped_at : UnarmouringValue → UnarmouringValue
-stopped_at v = record v { stopped = true; out = [] }
+abbrev pub unarmouring_stopped : UnarmouringValue → UnarmouringValue
+unarmouring_stopped v = record v { stopped = true; out = [] }
 
 -- ---- a step
 
@@ -40,12 +42,12 @@ bytes_with (byte ∷ rest) (suc count) =
     bytes_with rest (if is_character byte then count else suc count) + 1
 
 -- how many bytes of the piece go up to the end of the open group
-abbrev pub used_of : UnarmouringValue → List ℕ → ℕ
-used_of v piece = bytes_with piece (4 - length (characters v.taken) % 4)
+abbrev pub used_in_piece : UnarmouringValue → List ℕ → ℕ
+used_in_piece v piece = bytes_with piece (4 - length (characters v.taken) % 4)
 
 -- the text with these bytes
 abbrev pub text_with : UnarmouringValue → List ℕ → List ℕ
-text_with v piece = v.taken ++ take (used_of v piece) piece
+text_with v piece = v.taken ++ take (used_in_piece v piece) piece
 
 -- what the text gives beyond a front of it
 abbrev pub gained : List ℕ → List ℕ → List ℕ
@@ -58,16 +60,16 @@ answer_where (Some number) used = Err (bad_armour number)
 
 unfoldable pub group_answer : UnarmouringValue → List ℕ → Result ℕ ArmourError
 group_answer v piece = if v.stopped then Err Stopped
-    else answer_where (unarmoured (text_with v piece)).bad (used_of v piece)
+    else answer_where (unarmoured (text_with v piece)).bad (used_in_piece v piece)
 
 abbrev pub stepped_where : Option ℕ → UnarmouringValue → List ℕ → UnarmouringValue
 stepped_where None v text =
     record { taken = text; stopped = false; out = gained v.taken text }
-stepped_where (Some number) v text = stopped_at v
+stepped_where (Some number) v text = unarmouring_stopped v
 
 -- the session after a step: it took these bytes, and gave what the group gives that they end
 unfoldable pub group_stepped : UnarmouringValue → List ℕ → UnarmouringValue
-group_stepped v piece = if v.stopped then stopped_at v
+group_stepped v piece = if v.stopped then unarmouring_stopped v
     else stepped_where (unarmoured (text_with v piece)).bad v (text_with v piece)
 
 -- ---- the end
@@ -79,6 +81,6 @@ end_answer v = if v.stopped then Err Stopped
     else Ok tt
 
 unfoldable pub text_ended : UnarmouringValue → UnarmouringValue
-text_ended v = if v.stopped then stopped_at v
-    else if (unarmoured v.taken).short then stopped_at v
+text_ended v = if v.stopped then unarmouring_stopped v
+    else if (unarmoured v.taken).short then unarmouring_stopped v
     else record v { out = [] }

@@ -1,7 +1,8 @@
 //! Bytes that become armour text piece by piece.
 
 ghost use Rattle.std.specs.Prelude.{◌≡◌, ◌<◌, ◌≤◌, [], true, length};
-ghost use Rattle.armour_core.specs.Armouring.{ArmouringValue, line_ended, line_stepped, new_armouring, taken_of};
+ghost use Rattle.armour_core.specs.Armouring.{ArmouringValue, line_ended, line_stepped};
+ghost use Rattle.armour_core.specs.Armouring.{new_armouring, taken_of};
 
 use crate::base64_groups::line_text;
 
@@ -23,12 +24,12 @@ pub struct Armour {
 
 impl Armour {
     ghost use Rattle.armour_core.specs.ArmouredOutput.{held_of};
-    ghost use Rattle.armour_core.specs.Stands.{IsOpen, Stands};
+    ghost use Rattle.armour_core.specs.Stands.{ArmourIsOpen, Stands};
 
     /// Nothing is taken yet.
     pub fn new() -> Armour
         ensures stands { Stands result new_armouring }
-        ensures open { IsOpen result }
+        ensures open { ArmourIsOpen result }
     {
         Armour {
             line: [0; 57],
@@ -57,11 +58,11 @@ impl Armour {
     /// where they fill no line. It gives the line that they fill, as 76 characters and a line feed,
     /// and else nothing. Must not be called once `finish` was.
     pub fn step(&mut self, piece: &[u8]) -> usize
-        requires open { IsOpen self.old }
+        requires open { ArmourIsOpen self.old }
         ensures answer { (v : ArmouringValue) → Stands self.old v → result ≡ taken_of v piece.now }
         ensures stands { (v : ArmouringValue) → Stands self.old v
             → Stands self.new (line_stepped v piece.now) }
-        ensures open { IsOpen self.new }
+        ensures open { ArmourIsOpen self.new }
         ensures within { result ≤ length piece.now }
         ensures some { 1 ≤ length piece.now → 1 ≤ result }
     {

@@ -3,7 +3,7 @@
 ghost use Rattle.std.specs.Prelude.{◌≡◌, ◌≤◌, ◌++◌, length, take};
 ghost use Rattle.armour_core.specs.Armouring.{open_line};
 ghost use Rattle.armour_core.specs.ArmouredOutput.{full_lines_text, held_of};
-ghost use Rattle.armour_core.specs.Stands.{IsOpen};
+ghost use Rattle.armour_core.specs.Stands.{ArmourIsOpen};
 
 use crate::armour::{Armour, LINE};
 use crate::lines::put_line;
@@ -24,12 +24,12 @@ pub(crate) struct Filled {
 /// Takes bytes until they end or the buffer has no room for a line, and writes the text of the
 /// lines that they fill behind the open one's bytes.
 pub(crate) fn fill_lines(armour: &mut Armour, bytes: &[u8], text: &mut [u8; 9856]) -> Filled
-    requires open { IsOpen armour.old }
+    requires open { ArmourIsOpen armour.old }
     ensures text { take result.filled text.new
         ≡ full_lines_text (held_of armour.old ++ take result.used bytes.now) }
     ensures left { held_of armour.new
         ≡ open_line (held_of armour.old ++ take result.used bytes.now) }
-    ensures open { IsOpen armour.new }
+    ensures open { ArmourIsOpen armour.new }
     ensures within { result.used ≤ length bytes.now }
     ensures some { 1 ≤ length bytes.now → 1 ≤ result.used }
     ensures room { result.filled ≤ 9856 }
@@ -51,13 +51,13 @@ pub(crate) fn fill_lines(armour: &mut Armour, bytes: &[u8], text: &mut [u8; 9856
 /// byte is held, a line is made of the bytes where they stand.
 #[inline(always)]
 fn next_line(armour: &mut Armour, bytes: &[u8], text: &mut [u8]) -> Filled
-    requires open { IsOpen armour.old }
+    requires open { ArmourIsOpen armour.old }
     requires room { 77 ≤ length text.old }
     ensures text { take result.filled text.new
         ≡ full_lines_text (held_of armour.old ++ take result.used bytes.now) }
     ensures left { held_of armour.new
         ≡ open_line (held_of armour.old ++ take result.used bytes.now) }
-    ensures open { IsOpen armour.new }
+    ensures open { ArmourIsOpen armour.new }
     ensures within { result.used ≤ length bytes.now }
     ensures some { 1 ≤ length bytes.now → 1 ≤ result.used }
     ensures room { result.filled ≤ 77 }

@@ -1,6 +1,7 @@
 //! Laws about armour. A law is a function that does nothing: its contract is what is proved.
 
-ghost use Rattle.armour_core.specs.Laws.{ArmoursAnyCut, LinesAndRest, PassesLineBreaks, ReadsArmourText, TakesArmourText, UnarmoursAnyCut};
+ghost use Rattle.armour_core.specs.Laws.{ArmoursAnyCut, LinesAndRest, PassesLineBreaks};
+ghost use Rattle.armour_core.specs.Laws.{ReadsArmourText, TakesArmourText, UnarmoursAnyCut};
 
 /// The armour text of any bytes is read as these bytes, with no bad and no short group; and line
 /// feeds and carriage returns change nothing wherever they stand.

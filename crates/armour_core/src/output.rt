@@ -50,7 +50,8 @@ impl<'a, R: Receiver> ArmouredOutput<'a, R> {
 impl<'a, R: Receiver> Receiver for ArmouredOutput<'a, R> {
     ghost use Rattle.armour_core.specs.ArmouredOutput.{FailsAtLine, TakesLines};
     ghost use Rattle.std.proofs.Common.{◌∙◌, refl};
-    ghost use Rattle.armour_core.specs.ArmouredLaws.{armoured_behind, armoured_more, armoured_none, few_held};
+    ghost use Rattle.armour_core.specs.ArmouredLaws.{armoured_behind, armoured_more, armoured_none};
+    ghost use Rattle.armour_core.specs.ArmouredLaws.{few_held};
 
     type Error = R::Error;
 

@@ -1,8 +1,9 @@
 //! Armour text that is taken from a source in pieces, and read into a buffer.
 
-ghost use Rattle.std.specs.Prelude.{◌≡◌, ◌≢◌, ◌<◌, ◌≤◌, ℕ, List, [], None, Some, true, false, length, take, OnErr, OnOk};
+ghost use Rattle.std.specs.Prelude.{◌≡◌, ◌≢◌, ◌<◌, ◌≤◌, ℕ, List, [], None, Some, true, false};
+ghost use Rattle.std.specs.Prelude.{length, take, OnErr, OnOk};
+ghost use Rattle.esdk_base.specs.Streams.{most_input};
 ghost use Rattle.esdk_fields.specs.Counts.{Rose};
-ghost use Rattle.whole_input.specs.Pieces.{most_input};
 ghost use Rattle.armour_core.specs.Unarmouring.{IsBadGroup};
 ghost use Rattle.armour_core.specs.declared.text_end.TextEnd.TheVariants.{TooLong, Whole};
 
@@ -34,7 +35,8 @@ pub(crate) struct ArmourReader {
 
 impl ArmourReader {
     ghost use Rattle.armour_core.specs.Outlook.{open_of, read_out, text_outlook, with_front};
-    ghost use Rattle.armour_core.specs.ReaderOutlook.{IsSpent, KeepsOutlook, TakesPiece, gives, pending, reader_outlook};
+    ghost use Rattle.armour_core.specs.ReaderOutlook.{TextIsSpent, KeepsOutlook, TakesPiece, gives};
+    ghost use Rattle.armour_core.specs.ReaderOutlook.{pending, reader_outlook};
 
     /// Nothing is taken yet through these pieces.
     pub(crate) fn new(pieces: Pieces) -> ArmourReader
@@ -64,7 +66,7 @@ impl ArmourReader {
     fn may_read(&self) -> bool
         ensures read { result ≡ true → (pending self.now ≡ []) × (self.now.ending ≡ None)
             × (self.now.at < length self.now.pieces.piece) }
-        ensures spent { result ≡ false → pending self.now ≡ [] → IsSpent self.now }
+        ensures spent { result ≡ false → pending self.now ≡ [] → TextIsSpent self.now }
     {
         if self.handed < self.unarmour.out().len() {
             return false;
@@ -108,7 +110,7 @@ impl ArmourReader {
             ≡ reader_outlook self.old text }
         ensures pieces { self.new.pieces ≡ self.old.pieces }
         ensures some { result ≡ true → 1 ≤ length (pending self.new) }
-        ensures spent { result ≡ false → IsSpent self.new }
+        ensures spent { result ≡ false → TextIsSpent self.new }
         ensures keeps { 1 ≤ length (pending self.old) → 1 ≤ length (pending self.new) }
         ensures goes { self.new.ending ≡ None → self.old.ending ≡ None }
         ensures whole { self.new.ending ≡ Some Whole → self.old.ending ≡ Some Whole }
@@ -234,7 +236,7 @@ impl ArmourReader {
         ensures outlook { (text : List ℕ) → reader_outlook self.new text
             ≡ reader_outlook self.old text }
         ensures pieces { self.new.pieces ≡ self.old.pieces }
-        ensures wants { result ≡ true → IsSpent self.new × (self.new.ending ≡ None) }
+        ensures wants { result ≡ true → TextIsSpent self.new × (self.new.ending ≡ None) }
         ensures has { result ≡ false → self.new.ending ≡ None → 1 ≤ length (pending self.new) }
         ensures goes { self.new.ending ≡ None → self.old.ending ≡ None }
         ensures whole { self.new.ending ≡ Some Whole → self.old.ending ≡ Some Whole }
@@ -248,7 +250,7 @@ impl ArmourReader {
     /// Takes the next piece of the text from the source, by one read, or sees how the text ends.
     /// After a read that failed no bytes are to be handed on.
     pub(crate) fn take_text<S: Source>(&mut self, input: &mut S) -> Result<(), Failed>
-        requires spent { IsSpent self.old }
+        requires spent { TextIsSpent self.old }
         requires goes { self.old.ending ≡ None }
         ensures outlook { KeepsOutlook (S.state input.old) (S.state input.new) self.old self.new }
         ensures takes { TakesPiece (S.state input.old) (S.state input.new) self.old self.new }

@@ -1,12 +1,13 @@
 //! A source of armour text as a source of the bytes that it gives.
 
-ghost use Rattle.std.specs.Prelude.{◌≡◌, ◌-◌, ◌^◌, ◌≤◌, List, [], ℕ, None, Some, false, IfOk, IfSome, OnErr, OnOk, length};
+ghost use Rattle.std.specs.Prelude.{◌≡◌, ◌-◌, ◌^◌, ◌≤◌, List, [], ℕ, None, Some, false, IfOk};
+ghost use Rattle.std.specs.Prelude.{IfSome, OnErr, OnOk, length};
 ghost use Rattle.std.specs.Option.{option_map};
 ghost use Rattle.armour_core.specs.declared.text_end.TextEnd.{TextEnd};
 ghost use Rattle.armour_core.specs.declared.text_end.TextEnd.TheVariants.{TooLong};
-ghost use Rattle.whole_input.specs.Pieces.{most_input};
 ghost use Rattle.esdk_fields.specs.Counts.{HasCause, Rose};
 ghost use Rattle.std.proofs.Common.{◌∙◌, refl};
+ghost use Rattle.esdk_base.specs.Streams.{most_input};
 
 use crate::reader::ArmourReader;
 use crate::text_end::TextEnd;
@@ -36,7 +37,8 @@ pub struct UnarmouredSource<'a, S> {
 
 impl<'a, S: Source> UnarmouredSource<'a, S> {
     ghost use Rattle.armour_core.specs.Outlook.{text_outlook};
-    ghost use Rattle.armour_core.specs.ReaderOutlook.{Awaits, FailsAs, KeepsOutlook, gives, pending, reader_outlook, told_end};
+    ghost use Rattle.armour_core.specs.ReaderOutlook.{Awaits, FailsAs, KeepsOutlook, gives};
+    ghost use Rattle.armour_core.specs.ReaderOutlook.{pending, reader_outlook, told_end};
 
     /// The bytes that this text gives. Its buffer of 65,536 bytes is taken now, and nothing is read
     /// yet. Fails only where memory runs out.

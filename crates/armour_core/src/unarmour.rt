@@ -1,9 +1,11 @@
 //! Armour text that becomes bytes piece by piece.
 
-ghost use Rattle.std.specs.Prelude.{◌≡◌, ◌+◌, ◌-◌, ◌^◌, ◌≤◌, ◌<◌, List, ℕ, IfOk, length, min, true, false};
+ghost use Rattle.std.specs.Prelude.{◌≡◌, ◌+◌, ◌-◌, ◌^◌, ◌≤◌, ◌<◌, List, ℕ, IfOk, length, min, true};
+ghost use Rattle.std.specs.Prelude.{false};
 ghost use Rattle.std.proofs.Props.{props};
 ghost use Rattle.armour_core.specs.GroupState.{IsGroupState};
-ghost use Rattle.armour_core.specs.Unarmouring.{UnarmouringValue, end_answer, group_answer, group_stepped, new_unarmouring, text_ended};
+ghost use Rattle.armour_core.specs.Unarmouring.{UnarmouringValue, end_answer, group_answer};
+ghost use Rattle.armour_core.specs.Unarmouring.{group_stepped, new_unarmouring, text_ended};
 
 use crate::base64_groups::{group_bytes, is_character};
 use crate::errors::ArmourError;
@@ -27,11 +29,11 @@ pub struct Unarmour {
 }
 
 impl Unarmour {
-    ghost use Rattle.armour_core.specs.Stands.{HoldsGroup, Reads, TakesNext, open_fault};
+    ghost use Rattle.armour_core.specs.Stands.{HoldsGroup, StandsReading, TakesNext, open_fault};
 
     /// Nothing is taken yet.
     pub fn new() -> Unarmour
-        ensures { Reads result new_unarmouring }
+        ensures { StandsReading result new_unarmouring }
     {
         Unarmour {
             group: [0; 4],
@@ -47,7 +49,7 @@ impl Unarmour {
     /// What the last `step` gave. It is empty before the first one, after `finish` and after an
     /// error.
     pub fn out(&self) -> &[u8]
-        ensures { (v : UnarmouringValue) → Reads self.now v → result.now ≡ v.out }
+        ensures { (v : UnarmouringValue) → StandsReading self.now v → result.now ≡ v.out }
     {
         &self.bytes[..self.given]
     }
@@ -81,10 +83,10 @@ impl Unarmour {
     /// 1 where that is greater. `Stopped` exactly where an earlier call answered an error. An error
     /// leaves `out` empty.
     pub fn step(&mut self, piece: &[u8]) -> Result<usize, ArmourError>
-        ensures answer { (v : UnarmouringValue) → Reads self.old v
+        ensures answer { (v : UnarmouringValue) → StandsReading self.old v
             → result ≡ group_answer v piece.now }
-        ensures reads { (v : UnarmouringValue) → Reads self.old v
-            → Reads self.new (group_stepped v piece.now) }
+        ensures reads { (v : UnarmouringValue) → StandsReading self.old v
+            → StandsReading self.new (group_stepped v piece.now) }
         ensures within { IfOk result (λ used. used ≤ length piece.now) }
         ensures some { IfOk result (λ used. 1 ≤ length piece.now → 1 ≤ used) }
     {
@@ -111,8 +113,9 @@ impl Unarmour {
     /// number, or 2^64 - 1 where that is greater. `Stopped` exactly where an earlier call answered
     /// an error.
     pub fn finish(&mut self) -> Result<(), ArmourError>
-        ensures answer { (v : UnarmouringValue) → Reads self.old v → result ≡ end_answer v }
-        ensures reads { (v : UnarmouringValue) → Reads self.old v → Reads self.new (text_ended v) }
+        ensures answer { (v : UnarmouringValue) → StandsReading self.old v → result ≡ end_answer v }
+        ensures reads { (v : UnarmouringValue) → StandsReading self.old v
+            → StandsReading self.new (text_ended v) }
     {
         self.given = 0;
         if self.stopped {

@@ -5,7 +5,8 @@ use Rattle.esdk_fields.specs.declared.faults.Fault as faults
 use Rattle.esdk_fields.specs.Place.{Place, start}
 use Rattle.esdk_fields.specs.Reading.{Reading, Read, Refused, Wanting}
 use Rattle.esdk_base.specs.Streams.{ShelfState}
-use Rattle.header_codec.specs.Table.{Head, header}
+use Rattle.header_codec.specs.Table.{HeaderFields, header}
+use Rattle.header_codec.specs.Header.{no_limits}
 use Rattle.keyring_trait.specs.Keyring.{KeyringMeaning}
 use Rattle.keyring_trait.specs.Wrapping.{WrapKeyValue}
 use Rattle.multi_keyring.specs.Tree.{all_faults}
@@ -15,7 +16,7 @@ use Rattle.audit_core.specs.declared.audited.Audited.{Audited}
 use Rattle.audit_core.specs.declared.audited.Audited.TheVariants.{OpenedBy, Fault}
 use Rattle.audit_core.specs.Laws.{FindsOfWhatCame, told_by}
 use Rattle.audit_core.specs.MessageFiles.{FindsEach, FindsOf}
-use Rattle.audit_core.specs.Messages.{Message, audited, no_limits, unless_offence}
+use Rattle.audit_core.specs.Messages.{Message, audited, unless_offence}
 use Rattle.audit_core.specs.Openers.{openers}
 use Rattle.audit_core.proofs.Held.{audited_begins, audited_refused, audited_wanting, each_later, found_keep, held_message}
 use Rattle.audit_core.proofs.Told.{names_what_opens}
@@ -27,10 +28,10 @@ record IsOfWhatCame (leaves : List (List WrapKeyValue)) (old new : ShelfState) (
   pub end : header no_limits (start bytes) ≡ Wanting → SeesEnd m.from (length bytes) old.calls new.calls
   pub is : x ≡ audited leaves (held_message bytes m.given)
 
-read_not_wanting : (r : Reading Head) (parts : Head) (end : Place) (so : Type 0) → r ≡ Read parts end → r ≡ Wanting → so
+read_not_wanting : (r : Reading HeaderFields) (parts : HeaderFields) (end : Place) (so : Type 0) → r ≡ Read parts end → r ≡ Wanting → so
 read_not_wanting r parts end so is wanting = absurd cc
 
-refused_not_wanting : (r : Reading Head) (fault : faults.Fault) (at : ℕ) (so : Type 0) → r ≡ Refused fault at → r ≡ Wanting → so
+refused_not_wanting : (r : Reading HeaderFields) (fault : faults.Fault) (at : ℕ) (so : Type 0) → r ≡ Refused fault at → r ≡ Wanting → so
 refused_not_wanting r fault at so is wanting = absurd cc
 
 found_came : (leaves : List (List WrapKeyValue)) (old new : ShelfState) (before after : List KeyringMeaning) (m : AuditMessage) (x : Audited) → FindsOf old new before after m x

@@ -8,7 +8,7 @@ use Rattle.context_codec.specs.Parts.{only_given, whole_of}
 use Rattle.context_codec.proofs.Members.{Contains-head, Contains-tail, Contains-cases, Contains-nil}
 use Rattle.edk_codec.specs.Entry.{Entry}
 use Rattle.header_codec.specs.Header.{HeaderValue}
-use Rattle.header_codec.specs.Table.{Head}
+use Rattle.header_codec.specs.Table.{HeaderFields}
 use Rattle.keyring_trait.specs.Wrapping.{WrapKeyValue, first_some, unwrapped}
 use Rattle.keyring_trait.proofs.Firsts.{first_some-found, first_some-none}
 use Rattle.message_format.specs.Judgement.{header_of}
@@ -118,9 +118,9 @@ same_header m one other =
     let same = sym one.read ∙ other.read in
     cc
 
-opener_same : (m : Message) (keys : List WrapKeyValue) (one other : Head) → one ≡ other → is_opener (header_of m.bytes one) m.given keys ≡ true
+opener_same : (m : Message) (keys : List WrapKeyValue) (one other : HeaderFields) → one ≡ other → is_opener (header_of m.bytes one) m.given keys ≡ true
     → is_opener (header_of m.bytes other) m.given keys ≡ true
-opener_same m keys one other same opens = subst (λ (p : Head). is_opener (header_of m.bytes p) m.given keys ≡ true) same opens
+opener_same m keys one other same opens = subst (λ (p : HeaderFields). is_opener (header_of m.bytes p) m.given keys ≡ true) same opens
 
 -- of a message
 without : (before : List (List WrapKeyValue)) (keys : List WrapKeyValue) (behind : List (List WrapKeyValue)) (messages : List Message)

@@ -11,7 +11,7 @@ use Rattle.esdk_report.specs.declared.failure.Failure.{Failure}
 use Rattle.audit_core.specs.declared.audited.Audited.{Audited}
 use Rattle.audit_core.specs.declared.audited.Audited.TheVariants.{OpenedBy, Fault}
 use Rattle.audit_core.specs.Asking.{LeafAnswer, NamesOpeners}
-use Rattle.audit_core.specs.MessageFiles.{FindsEach, FindsNotEach, FindsNotOf, FindsOf, HasNoMemory}
+use Rattle.audit_core.specs.MessageFiles.{FindsEach, FindsNotEach, FindsNotOf, FindsOf, LacksMemoryForMessage}
 
 -- ---- as many leaves
 
@@ -91,13 +91,13 @@ module _ (messages : List AuditMessage) (i : ℕ) (m : AuditMessage) (lt : i < l
 -- ---- memory runs out
 
 -- what was found has no room
-lacks_room_by : (old new : ShelfState) (before after : List KeyringMeaning) (m : AuditMessage) (x : Audited) → FindsOf old new before after m x → HasNoMemory old new (all_faults before) (all_faults after) m
+lacks_room_by : (old new : ShelfState) (before after : List KeyringMeaning) (m : AuditMessage) (x : Audited) → FindsOf old new before after m x → LacksMemoryForMessage old new (all_faults before) (all_faults after) m
 lacks_room_by old new before after m (OpenedBy openers) found = inr (record { header = found.header; has = found.has; sound = found.names.sound })
 lacks_room_by old new before after m (Fault fault) (inl has, same) = inl (inr (Err fault, has), ap all_faults same)
 lacks_room_by old new before after m (Fault fault) (inr has, same) = inl (inr (Ok has.header, has.has), ap all_faults same)
 
 pub lacks_room : (old new : ShelfState) (before after : List KeyringMeaning) (counted now : ℕ) (m : AuditMessage) (x : Audited) → counted ≡ all_faults before → now ≡ all_faults after
-    → FindsOf old new before after m x → HasNoMemory old new counted now m
+    → FindsOf old new before after m x → LacksMemoryForMessage old new counted now m
 lacks_room old new before after counted now m x counts then found =
-    subst (λ (n : ℕ). HasNoMemory old new counted n m) (sym then)
-    (subst (λ (n : ℕ). HasNoMemory old new n (all_faults after) m) (sym counts) (lacks_room_by old new before after m x found))
+    subst (λ (n : ℕ). LacksMemoryForMessage old new counted n m) (sym then)
+    (subst (λ (n : ℕ). LacksMemoryForMessage old new n (all_faults after) m) (sym counts) (lacks_room_by old new before after m x found))

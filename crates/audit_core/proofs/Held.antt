@@ -12,7 +12,7 @@ use Rattle.esdk_base.specs.Shelf.{Files, Holds}
 use Rattle.esdk_base.specs.Streams.{ShelfState}
 use Rattle.context_codec.specs.Context.{KeyValue}
 use Rattle.context_codec.proofs.Stored.{stored_is}
-use Rattle.header_codec.specs.Header.{HeaderValue}
+use Rattle.header_codec.specs.Header.{HeaderValue, no_limits}
 use Rattle.header_codec.specs.Table.{BeginsWith, header, made_of}
 use Rattle.header_codec.proofs.Followed.{BeginsWith-append}
 use Rattle.header_codec.proofs.Order.{IsSequential-header}
@@ -24,8 +24,8 @@ use Rattle.audit_core.specs.declared.audited.Audited.{Audited}
 use Rattle.audit_core.specs.declared.audited.Audited.TheVariants.{OpenedBy, Fault}
 use Rattle.audit_core.specs.Asking.{LeafAnswer, IsAnswer, NamesOpeners}
 use Rattle.audit_core.specs.Laws.{told_by}
-use Rattle.audit_core.specs.MessageFiles.{AreHeld, FindsEach, FindsOf, HasHeaderFault, HasHeader, IsCut}
-use Rattle.audit_core.specs.Messages.{Message, audited, audited_header, audited_reading, no_limits, unless_offence}
+use Rattle.audit_core.specs.MessageFiles.{AreHeld, FindsEach, FindsOf, HasHeaderFault, HasMessageHeader, IsCut}
+use Rattle.audit_core.specs.Messages.{Message, audited, audited_header, audited_reading, unless_offence}
 use Rattle.audit_core.specs.Openers.{openers}
 use Rattle.audit_core.proofs.Told.{before_of, after_of, later_all, names_what_opens}
 
@@ -43,7 +43,7 @@ audited_begins leaves told given h end begins =
     ∙ ap (λ (x : HeaderValue). audited_header leaves x given)
     (ap (made_of told begins.parts) (stored_is begins.parts.context h.stored begins.stored) ∙ sym begins.is)
 
-held_header : (leaves : List (List WrapKeyValue)) (old new : ShelfState) (name told : List ℕ) (given : List KeyValue) (h : HeaderValue) → HasHeader old new name h → Holds old.files name told
+held_header : (leaves : List (List WrapKeyValue)) (old new : ShelfState) (name told : List ℕ) (given : List KeyValue) (h : HeaderValue) → HasMessageHeader old new name h → Holds old.files name told
     → audited leaves (held_message told given) ≡ audited_header leaves h given
 held_header leaves old new name told given h has holds =
     let rest = drop (length has.bytes) told in

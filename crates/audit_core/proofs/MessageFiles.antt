@@ -11,17 +11,16 @@ use Rattle.esdk_fields.specs.Place.{start}
 use Rattle.esdk_fields.specs.Reading.{Wanting}
 use Rattle.esdk_base.specs.Shelf.{Files, Holds, is_missing}
 use Rattle.esdk_base.specs.Streams.{FailsToRead, ShelfState, SourceState}
-use Rattle.header_codec.specs.Header.{HeaderValue}
+use Rattle.header_codec.specs.Header.{HeaderValue, no_limits}
 use Rattle.header_codec.specs.Table.{header, opening}
-use Rattle.header_input.specs.Taking.{EndCame, FaultCame, IsTooLong, LacksMemory, ReadFailed}
+use Rattle.header_input.specs.Taking.{EndCame, FaultCame, HeaderInputIsTooLong, HeaderInputLacksMemory, ReadFailed}
 use Rattle.whole_input.specs.FileReads.{ComesFrom, ReadsRow, SeesEnd}
-use Rattle.whole_input.specs.FileSource.{ReadsOn, file_left, left_from}
+use Rattle.whole_input.specs.FileSource.{FileReadsOn, file_left, left_from}
 use Rattle.whole_input.specs.Taken.{Came}
 use Rattle.esdk_report.specs.declared.failure.Failure.{Failure}
 use Rattle.esdk_report.specs.declared.failure.Failure.TheVariants as failures
-use Rattle.audit_core.specs.Messages.{no_limits}
-use Rattle.audit_core.specs.MessageFiles.{FindsHeader, FindsNoHeader, HasHeaderFault, HasHeader, IsCut, IsEndless, HeaderLacksMemory, HeaderUnread, ReadsWell, ReadsFront}
-use Rattle.audit_core.specs.Taking.{HeaderCame, TakesHeader, TakesNone}
+use Rattle.audit_core.specs.MessageFiles.{FindsMessageHeader, FindsNoHeader, HasHeaderFault, HasMessageHeader, IsCut, IsEndless, HeaderLacksMemory, HeaderUnread, ReadsWell, ReadsFileFront}
+use Rattle.audit_core.specs.Taking.{FileHeaderCame, TakesHeader, TakesNoHeader}
 
 -- the source of a file that came so far and failed so often, and what came from it
 abbrev pub source_at : ShelfState → List ℕ → ℕ → ℕ → List ℕ → Bool → SourceState
@@ -59,8 +58,8 @@ whole_told (Some held) (Some rest) front told consumed end is =
 
 -- ---- what was read
 
-module _ (old new : ShelfState) (name : List ℕ) (at count : ℕ) (came : List ℕ) (ended : Bool) (on : ReadsOn old new name 0 at 0 count) (comes : ComesFrom name 0 at old.calls new.calls [] came false ended) where
-  reads_front : (taken : List ℕ) → Came (source_at old name 0 0 [] false) (source_at new name at count came ended) taken → ReadsFront old new name taken
+module _ (old new : ShelfState) (name : List ℕ) (at count : ℕ) (came : List ℕ) (ended : Bool) (on : FileReadsOn old new name 0 at 0 count) (comes : ComesFrom name 0 at old.calls new.calls [] came false ended) where
+  reads_front : (taken : List ℕ) → Came (source_at old name 0 0 [] false) (source_at new name at count came ended) taken → ReadsFileFront old new name taken
   reads_front taken is = record {
     came = subst (ReadsRow name 0 old.calls new.calls) (sym comes.more ∙ is.told) comes.row;
     front = λ told holds. front_told (file_left old.files name 0) (file_left new.files name at) taken told is.consumed (left_held old.files name told holds);
@@ -93,8 +92,8 @@ unless_missing : (missing : Bool) → (missing ≡ true → ⊥) → missing ≡
 unless_missing true never = absurd (never refl)
 unless_missing false never = refl
 
-module _ (old new : ShelfState) (name : List ℕ) (at count : ℕ) (came : List ℕ) (ended : Bool) (on : ReadsOn old new name 0 at 0 count) (comes : ComesFrom name 0 at old.calls new.calls [] came false ended) where
-  came_header : (h : HeaderValue) → HeaderCame h (source_at old name 0 0 [] false) (source_at new name at count came ended) → HasHeader old new name h
+module _ (old new : ShelfState) (name : List ℕ) (at count : ℕ) (came : List ℕ) (ended : Bool) (on : FileReadsOn old new name 0 at 0 count) (comes : ComesFrom name 0 at old.calls new.calls [] came false ended) where
+  came_header : (h : HeaderValue) → FileHeaderCame h (source_at old name 0 0 [] false) (source_at new name at count came ended) → HasMessageHeader old new name h
   came_header h found =
       let there = unless_missing (is_missing old.files name) (λ missing.
       (let wanting = read_none found.bytes (none_given old new name at count came ended on comes found.bytes found.came missing) in
@@ -139,7 +138,7 @@ module _ (old new : ShelfState) (name : List ℕ) (at count : ℕ) (came : List 
         wanting = found.wanting;
       }
 
-  takes_header : (taken : Result HeaderValue Fault) → TakesHeader (source_at old name 0 0 [] false) (source_at new name at count came ended) taken → FindsHeader old new name taken
+  takes_header : (taken : Result HeaderValue Fault) → TakesHeader (source_at old name 0 0 [] false) (source_at new name at count came ended) taken → FindsMessageHeader old new name taken
   takes_header (Ok h) came = came_header h came
   takes_header (Err fault) (inl came) = inl (came_fault fault came)
   takes_header (Err fault) (inr came) = inr (came.0, came_end came.1)
@@ -157,11 +156,11 @@ module _ (old new : ShelfState) (name : List ℕ) (at count : ℕ) (came : List 
     cause = read_failed (is_missing old.files name) refl found.rose few;
   }
 
-  came_endless : IsTooLong no_limits (source_at old name 0 0 [] false) (source_at new name at count came ended) → IsEndless old new name
+  came_endless : HeaderInputIsTooLong no_limits (source_at old name 0 0 [] false) (source_at new name at count came ended) → IsEndless old new name
   came_endless found =
       record { bytes = found.bytes; read = reads_front old new name at count came ended on comes found.bytes found.came; wanting = found.wanting; count = found.most.count }
 
-  came_lacking : LacksMemory no_limits (source_at old name 0 0 [] false) (source_at new name at count came ended) → HeaderLacksMemory old new name
+  came_lacking : HeaderInputLacksMemory no_limits (source_at old name 0 0 [] false) (source_at new name at count came ended) → HeaderLacksMemory old new name
   came_lacking found = record {
     bytes = found.bytes;
     read = reads_front old new name at count came ended on comes found.bytes found.came;
@@ -169,7 +168,7 @@ module _ (old new : ShelfState) (name : List ℕ) (at count : ℕ) (came : List 
     faults = on.same found.faults (omega (arith, found.faults));
   }
 
-  takes_none : (failure : Failure) → at ≤ 2 ^ 62 → TakesNone (source_at old name 0 0 [] false) (source_at new name at count came ended) failure → FindsNoHeader old new name failure
+  takes_none : (failure : Failure) → at ≤ 2 ^ 62 → TakesNoHeader (source_at old name 0 0 [] false) (source_at new name at count came ended) failure → FindsNoHeader old new name failure
   takes_none (failures.Outside outsides.ShelfFault) few came = came_unread came few
   takes_none (failures.Outside outsides.InputTooLong) few came = came_endless came
   takes_none failures.Memory few came = came_lacking came
@@ -192,7 +191,7 @@ pub record IsSource (old mid : ShelfState) (name first_name last_name : List ℕ
   pub zero_faults : before ≡ 0
   pub nothing : begun_came ≡ []
   pub unseen : begun_ended ≡ false
-  pub on : ReadsOn first mid first_name begun at before count
+  pub on : FileReadsOn first mid first_name begun at before count
   pub comes : ComesFrom first_name begun at first.calls mid.calls begun_came came begun_ended ended
   pub few : at ≤ begun + 2 ^ 62
 
@@ -208,26 +207,26 @@ module _ (old mid : ShelfState) (name first_name last_name : List ℕ) (first : 
       (subst (λ (n : List ℕ). So old n last_name begun before begun_came begun_ended) is.named
       (subst (λ (s : ShelfState). So s first_name last_name begun before begun_came begun_ended) is.same is_so))))))
 
-  on_front : ReadsOn old mid name 0 at 0 count
-  on_front = of_front (λ s n l b f c e. ReadsOn s mid n b at f count) is.on
+  on_front : FileReadsOn old mid name 0 at 0 count
+  on_front = of_front (λ s n l b f c e. FileReadsOn s mid n b at f count) is.on
 
   comes_front : ComesFrom name 0 at old.calls mid.calls [] came false ended
   comes_front = of_front (λ s n l b f c e. ComesFrom n b at s.calls mid.calls c came e ended) is.comes
 
 pub header_found : (old mid new : ShelfState) (name first_name last_name : List ℕ) (first : ShelfState) (begun at before count : ℕ) (begun_came came : List ℕ) (begun_ended ended : Bool) (r : Result (Result HeaderValue Fault) Failure) → new ≡ mid
     → IsSource old mid name first_name last_name first begun at before count begun_came came begun_ended ended
-    → IfOk r (TakesHeader (source_at first first_name begun before begun_came begun_ended) (source_at mid last_name at count came ended)) → IfOk r (FindsHeader old new name)
+    → IfOk r (TakesHeader (source_at first first_name begun before begun_came begun_ended) (source_at mid last_name at count came ended)) → IfOk r (FindsMessageHeader old new name)
 header_found old mid new name first_name last_name first begun at before count begun_came came begun_ended ended (Err failure) end is takes = tt
 header_found old mid new name first_name last_name first begun at before count begun_came came begun_ended ended (Ok taken) end is takes =
-    subst (λ (s : ShelfState). FindsHeader old s name taken) (sym end)
+    subst (λ (s : ShelfState). FindsMessageHeader old s name taken) (sym end)
     (takes_header old mid name at count came ended (on_front old mid name first_name last_name first begun at before count begun_came came begun_ended ended is) (comes_front old mid name first_name last_name first begun at before count begun_came came begun_ended ended is) taken
     (of_front old mid name first_name last_name first begun at before count begun_came came begun_ended ended is (λ s n l b f c e. TakesHeader (source_at s n b f c e) (source_at mid l at count came ended) taken) takes))
 
 pub header_not_found : (old mid new : ShelfState) (name first_name last_name : List ℕ) (first : ShelfState) (begun at before count : ℕ) (begun_came came : List ℕ) (begun_ended ended : Bool) (r : Result (Result HeaderValue Fault) Failure) → new ≡ mid
     → IsSource old mid name first_name last_name first begun at before count begun_came came begun_ended ended
-    → IfErr r (TakesNone (source_at first first_name begun before begun_came begun_ended) (source_at mid last_name at count came ended)) → IfErr r (FindsNoHeader old new name)
+    → IfErr r (TakesNoHeader (source_at first first_name begun before begun_came begun_ended) (source_at mid last_name at count came ended)) → IfErr r (FindsNoHeader old new name)
 header_not_found old mid new name first_name last_name first begun at before count begun_came came begun_ended ended (Ok taken) end is takes = tt
 header_not_found old mid new name first_name last_name first begun at before count begun_came came begun_ended ended (Err failure) end is takes =
     subst (λ (s : ShelfState). FindsNoHeader old s name failure) (sym end)
     (takes_none old mid name at count came ended (on_front old mid name first_name last_name first begun at before count begun_came came begun_ended ended is) (comes_front old mid name first_name last_name first begun at before count begun_came came begun_ended ended is) failure (omega (arith, is.few, is.zero_at))
-    (of_front old mid name first_name last_name first begun at before count begun_came came begun_ended ended is (λ s n l b f c e. TakesNone (source_at s n b f c e) (source_at mid l at count came ended) failure) takes))
+    (of_front old mid name first_name last_name first begun at before count begun_came came begun_ended ended is (λ s n l b f c e. TakesNoHeader (source_at s n b f c e) (source_at mid l at count came ended) failure) takes))

@@ -8,15 +8,15 @@ use Rattle.esdk_fields.specs.declared.faults.Fault as faults
 use Rattle.esdk_fields.specs.Place.{start}
 use Rattle.esdk_fields.specs.Reading.{Reading, Read, Refused, Wanting}
 use Rattle.context_codec.specs.Context.{KeyValue}
-use Rattle.header_codec.specs.Header.{HeaderValue}
-use Rattle.header_codec.specs.Table.{Head, header}
+use Rattle.header_codec.specs.Header.{HeaderValue, no_limits}
+use Rattle.header_codec.specs.Table.{HeaderFields, header}
 use Rattle.keyring_trait.specs.Unlocking.{pair_offence}
 use Rattle.keyring_trait.specs.Wrapping.{WrapKeyValue}
 use Rattle.message_format.specs.Judgement.{header_of}
 use Rattle.audit_core.specs.declared.audited.Audited.{Audited}
 use Rattle.audit_core.specs.declared.audited.Audited.TheVariants.{OpenedBy, Fault}
 use Rattle.audit_core.specs.Laws.{AnotherStands, StandsIn}
-use Rattle.audit_core.specs.Messages.{Message, audited, audited_reading, no_limits, unless_offence}
+use Rattle.audit_core.specs.Messages.{Message, audited, audited_reading, unless_offence}
 use Rattle.audit_core.specs.Openers.{is_needed_for, is_opener, needed_for, openers}
 use Rattle.audit_core.proofs.Numbered.{Contains-map, first_two, none_passes}
 
@@ -29,7 +29,7 @@ unless_apart : (offence : Option faults.Fault) (leaves : List (List WrapKeyValue
 unless_apart None leaves h given = λ one two more is. first_two (is_opener h given) 1 leaves one two more is
 unless_apart (Some fault) leaves h given = tt
 
-reading_apart : (leaves : List (List WrapKeyValue)) (m : Message) (reading : Reading Head) → Apart (audited_reading leaves m reading)
+reading_apart : (leaves : List (List WrapKeyValue)) (m : Message) (reading : Reading HeaderFields) → Apart (audited_reading leaves m reading)
 reading_apart leaves m (Refused fault at) = tt
 reading_apart leaves m Wanting = tt
 reading_apart leaves m (Read parts body) =

@@ -5,25 +5,24 @@ use Rattle.esdk_fields.specs.Place.{Place, start, followed}
 use Rattle.esdk_fields.specs.Reading.{Reading, Read, Wanting}
 use Rattle.esdk_base.specs.Streams.{SourceState}
 use Rattle.header_codec.specs.declared.session.HeaderReader.{HeaderReader}
-use Rattle.header_codec.specs.Header.{HeaderValue}
+use Rattle.header_codec.specs.Header.{HeaderValue, no_limits}
 use Rattle.header_codec.specs.Session.{ShowsHeader}
 use Rattle.header_codec.specs.Table.{BeginsWith, header}
 use Rattle.header_codec.proofs.Followed.{BeginsWith-append}
-use Rattle.header_input.specs.Feeding.{Holds, session_of}
+use Rattle.header_input.specs.Feeding.{HasTakenHeader, header_session_of}
 use Rattle.header_input.specs.Taking.{HoldsHeader}
-use Rattle.audit_core.specs.Messages.{no_limits}
-use Rattle.audit_core.specs.Taking.{HeaderCame}
+use Rattle.audit_core.specs.Taking.{FileHeaderCame}
 
 read_not_wanting : {A : Type 0} (x : A) (end : Place) (r : Reading A) → r ≡ Read x end → r ≡ Wanting → ⊥
 read_not_wanting x end r read wanting = cc
 
 -- a reader that took a whole header shows one
-pub shows_some : (reader : HeaderReader) (bytes : List ℕ) (holds : Holds no_limits reader bytes) → ShowsHeader (session_of no_limits holds.taken) None → ⊥
+pub shows_some : (reader : HeaderReader) (bytes : List ℕ) (holds : HasTakenHeader no_limits reader bytes) → ShowsHeader (header_session_of no_limits holds.taken) None → ⊥
 shows_some reader bytes holds wanting = read_not_wanting holds.parts holds.end (header no_limits (start holds.taken)) holds.read wanting
 
 -- what it shows is the header with which the bytes that came begin
 pub shows_came : (reader : HeaderReader) (old new : SourceState) (holds : HoldsHeader no_limits reader old new) (h : HeaderValue)
-    → ShowsHeader (session_of no_limits holds.holds.taken) (Some h) → HeaderCame h old new
+    → ShowsHeader (header_session_of no_limits holds.holds.taken) (Some h) → FileHeaderCame h old new
 shows_came reader old new holds h shows =
     let taken = holds.holds.taken in
     let rest = holds.holds.rest in

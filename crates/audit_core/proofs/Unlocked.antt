@@ -6,20 +6,20 @@ use Rattle.esdk_fields.specs.Place.{Place, start}
 use Rattle.esdk_fields.specs.Reading.{Reading, Read, Refused, Wanting}
 use Rattle.context_codec.specs.Context.{KeyValue}
 use Rattle.context_codec.specs.Parts.{only_given, whole_of}
-use Rattle.header_codec.specs.Header.{HeaderValue}
-use Rattle.header_codec.specs.Table.{Head, header}
+use Rattle.header_codec.specs.Header.{HeaderValue, no_limits}
+use Rattle.header_codec.specs.Table.{HeaderFields, header}
 use Rattle.keyring_trait.specs.Unlocking.{Unlocking, Unlocks, opens_with, pair_offence, unless, unlock}
 use Rattle.keyring_trait.specs.Wrapping.{WrapKeyValue}
 use Rattle.message_format.specs.Judgement.{header_of, judged, judged_header, judged_lock, judged_reading, lock_fault}
 use Rattle.message_format.specs.Reading.{read, unlock_reading, unlocking}
 use Rattle.audit_core.specs.Laws.{StandsIn, UnlockedWith}
-use Rattle.audit_core.specs.Messages.{Message, audited, audited_reading, no_limits, unless_offence}
+use Rattle.audit_core.specs.Messages.{Message, audited, audited_reading, unless_offence}
 use Rattle.audit_core.specs.Openers.{found_with, is_opener, openers, unlocks}
 use Rattle.audit_core.proofs.Numbered.{number_listed, number_of, same_front}
 
 -- The message has a whole header, nothing is wrong with its pairs, and this is so of it.
 pub record BeginsSo (m : Message) (So : HeaderValue → Type 0) : Type 0 where
-  pub parts : Head
+  pub parts : HeaderFields
   pub body : Place
   pub read : header no_limits (start m.bytes) ≡ Read parts body
   pub sound : pair_offence (header_of m.bytes parts).stored m.given [] ≡ None
@@ -50,10 +50,10 @@ unless_none h given body None keys is = (refl, sym (opened_unlocked h body (whol
 unless_none h given body (Some fault) keys is = absurd cc
 
 -- what was read
-abbrev ReadingUnlocks : Message → List WrapKeyValue → Reading Head → Type 0
+abbrev ReadingUnlocks : Message → List WrapKeyValue → Reading HeaderFields → Type 0
 ReadingUnlocks m keys reading = (judged_reading m.bytes no_limits (unlock_reading m.bytes m.given [] keys reading) reading).unlocked ≡ true
 
-reading_unlocks : (m : Message) (keys : List WrapKeyValue) (reading : Reading Head) → header no_limits (start m.bytes) ≡ reading → ReadingUnlocks m keys reading
+reading_unlocks : (m : Message) (keys : List WrapKeyValue) (reading : Reading HeaderFields) → header no_limits (start m.bytes) ≡ reading → ReadingUnlocks m keys reading
     → BeginsSo m (λ h. is_opener h m.given keys ≡ true)
 unfolding unlock
 reading_unlocks m keys (Refused fault at) is unlocked = absurd cc
@@ -67,7 +67,7 @@ pub opener_of : (m : Message) (keys : List WrapKeyValue) → UnlockedWith keys m
 unfolding read judged unlocking
 opener_of m keys unlocked = reading_unlocks m keys (header no_limits (start m.bytes)) refl unlocked
 
-reading_opener : (m : Message) (keys : List WrapKeyValue) (parts : Head) (body : Place) → pair_offence (header_of m.bytes parts).stored m.given [] ≡ None
+reading_opener : (m : Message) (keys : List WrapKeyValue) (parts : HeaderFields) (body : Place) → pair_offence (header_of m.bytes parts).stored m.given [] ≡ None
     → is_opener (header_of m.bytes parts) m.given keys ≡ true → ReadingUnlocks m keys (Read parts body)
 unfolding unlock
 reading_opener m keys parts body sound opens =
@@ -78,7 +78,7 @@ reading_opener m keys parts body sound opens =
 pub unlocked_of : (m : Message) (keys : List WrapKeyValue) → BeginsSo m (λ h. is_opener h m.given keys ≡ true) → UnlockedWith keys m
 unfolding read judged unlocking
 unlocked_of m keys has =
-    subst (λ (r : Reading Head). (judged_reading m.bytes no_limits (unlock_reading m.bytes m.given [] keys r) r).unlocked ≡ true) (sym has.read)
+    subst (λ (r : Reading HeaderFields). (judged_reading m.bytes no_limits (unlock_reading m.bytes m.given [] keys r) r).unlocked ≡ true) (sym has.read)
     (reading_opener m keys has.parts has.body has.sound has.so)
 
 -- what its keys answer, where they find this data key
@@ -100,7 +100,7 @@ unless_stands : (offence : Option faults.Fault) (numbers : List ℕ) (leaf : ℕ
 unless_stands None numbers leaf stands = (refl, stands)
 unless_stands (Some fault) numbers leaf stands = absurd stands
 
-reading_stands : (leaves : List (List WrapKeyValue)) (m : Message) (leaf : ℕ) (reading : Reading Head) → header no_limits (start m.bytes) ≡ reading
+reading_stands : (leaves : List (List WrapKeyValue)) (m : Message) (leaf : ℕ) (reading : Reading HeaderFields) → header no_limits (start m.bytes) ≡ reading
     → StandsIn (audited_reading leaves m reading) leaf → BeginsSo m (λ h. Contains (openers leaves h m.given) leaf)
 reading_stands leaves m leaf (Refused fault at) is stands = absurd stands
 reading_stands leaves m leaf Wanting is stands = absurd stands
@@ -117,7 +117,7 @@ pub stands_of : (leaves : List (List WrapKeyValue)) (m : Message) (leaf : ℕ) �
 unfolding audited
 stands_of leaves m leaf has =
     let h = header_of m.bytes has.parts in
-    subst (λ (r : Reading Head). StandsIn (audited_reading leaves m r) leaf) (sym has.read)
+    subst (λ (r : Reading HeaderFields). StandsIn (audited_reading leaves m r) leaf) (sym has.read)
     (subst (λ (o : Option faults.Fault). StandsIn (unless_offence o (openers leaves h m.given)) leaf) (sym has.sound) has.so)
 
 -- ---- the law

@@ -39,7 +39,7 @@ pub record NamesOpeners (old now : List KeyringMeaning) (h : HeaderValue) (given
       openers ≡ numbers_of (λ a. unlocks h (only_given h.stored given) a.found) 1 answers
 
 -- The pairs that the header stores and those that are given have nothing wrong, and are these.
-pub record JoinsPairs (h : HeaderValue) (given : List KeyValue) (pairs : Joined) : Type 0 where
+pub record JoinsGivenPairs (h : HeaderValue) (given : List KeyValue) (pairs : Joined) : Type 0 where
   pub sound : pair_offence h.stored given [] ≡ None
   pub whole : pairs.whole ≡ whole_of h.stored given
   pub only : pairs.only ≡ only_given h.stored given

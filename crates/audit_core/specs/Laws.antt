@@ -4,7 +4,7 @@ use Rattle.std.specs.Prelude.{Contains, Option, Some, None}
 use Rattle.esdk_fields.specs.Counts.{Stayed}
 use Rattle.context_codec.specs.Context.{KeyValue}
 use Rattle.esdk_base.specs.Streams.{ShelfState}
-use Rattle.header_codec.specs.Header.{HeaderValue}
+use Rattle.header_codec.specs.Header.{HeaderValue, no_limits}
 use Rattle.job_file.specs.declared.audit.AuditMessage.{AuditMessage}
 use Rattle.keyring_trait.specs.Keyring.{KeyringMeaning}
 use Rattle.keyring_trait.specs.Unlocking.{Unlocks}
@@ -15,7 +15,7 @@ use Rattle.audit_core.specs.declared.audited.Audited.{Audited}
 use Rattle.audit_core.specs.declared.audited.Audited.TheVariants.{OpenedBy, Fault}
 use Rattle.audit_core.specs.Asking.{NamesOpeners}
 use Rattle.audit_core.specs.MessageFiles.{AreHeld, FindsEach, HaveCome}
-use Rattle.audit_core.specs.Messages.{Message, audited, no_limits}
+use Rattle.audit_core.specs.Messages.{Message, audited}
 use Rattle.audit_core.specs.Openers.{needed_for, openers}
 
 -- the wrapping keys of a tree whose leaves have these

@@ -12,7 +12,7 @@ use Rattle.esdk_fields.specs.Reading.{Refused, Wanting}
 use Rattle.esdk_seen.specs.Calls.{ShelfCall}
 use Rattle.esdk_base.specs.Shelf.{Files, Holds, is_missing}
 use Rattle.esdk_base.specs.Streams.{FailsToRead, ShelfState}
-use Rattle.header_codec.specs.Header.{HeaderValue}
+use Rattle.header_codec.specs.Header.{HeaderValue, no_limits}
 use Rattle.header_codec.specs.Table.{BeginsWith, header}
 use Rattle.keyring_trait.specs.Keyring.{KeyringMeaning}
 use Rattle.keyring_trait.specs.Unlocking.{pair_offence}
@@ -26,13 +26,13 @@ use Rattle.esdk_report.specs.declared.failure.Failure.TheVariants as failures
 use Rattle.audit_core.specs.declared.audited.Audited.{Audited}
 use Rattle.audit_core.specs.declared.audited.Audited.TheVariants.{OpenedBy, Fault}
 use Rattle.audit_core.specs.Asking.{NamesOpeners}
-use Rattle.audit_core.specs.Messages.{Message, no_limits}
+use Rattle.audit_core.specs.Messages.{Message}
 
 -- ---- the header in a file
 
 -- These bytes are what the calls between gave, which read the file in a row from its front. They
 -- stand there, where the shelf tells, and no more were given; the files of the shelf stayed.
-pub record ReadsFront (old new : ShelfState) (name bytes : List ℕ) : Type 0 where
+pub record ReadsFileFront (old new : ShelfState) (name bytes : List ℕ) : Type 0 where
   pub came : ReadsRow name 0 old.calls new.calls bytes
   pub front : IsFront old.files name bytes
   pub given : new.given ≤ old.given + length bytes
@@ -40,13 +40,13 @@ pub record ReadsFront (old new : ShelfState) (name bytes : List ℕ) : Type 0 wh
 
 -- The same, where the shelf doesn't tell that the file isn't there, and no read failed.
 pub record ReadsWell (old new : ShelfState) (name bytes : List ℕ) : Type 0 where
-  pub read : ReadsFront old new name bytes
+  pub read : ReadsFileFront old new name bytes
   pub there : is_missing old.files name ≡ false
   pub faults : new.faults ≡ old.faults
 
 -- The file begins with this header and its authentication; what was read behind it is less than a
 -- piece.
-pub record HasHeader (old new : ShelfState) (name : List ℕ) (h : HeaderValue) : Type 0 where
+pub record HasMessageHeader (old new : ShelfState) (name : List ℕ) (h : HeaderValue) : Type 0 where
   pub bytes : List ℕ
   pub end : Place
   pub reads : ReadsWell old new name bytes
@@ -71,23 +71,23 @@ pub record IsCut (old new : ShelfState) (name : List ℕ) : Type 0 where
   pub wanting : header no_limits (start bytes) ≡ Wanting
 
 -- the header, or its fault, which is M10 where the file ends before it does
-abbrev pub FindsHeader : ShelfState → ShelfState → (name : List ℕ)
+abbrev pub FindsMessageHeader : ShelfState → ShelfState → (name : List ℕ)
     → Result HeaderValue faults.Fault → Type 0
-FindsHeader old new name (Ok h) = HasHeader old new name h
-FindsHeader old new name (Err fault) =
+FindsMessageHeader old new name (Ok h) = HasMessageHeader old new name h
+FindsMessageHeader old new name (Err fault) =
     HasHeaderFault old new name fault ⊎ ((fault ≡ Truncated) × IsCut old new name)
 
 -- A read failed, and what was read before is the beginning of a header.
 pub record HeaderUnread (old new : ShelfState) (name : List ℕ) : Type 0 where
   pub bytes : List ℕ
-  pub read : ReadsFront old new name bytes
+  pub read : ReadsFileFront old new name bytes
   pub wanting : header no_limits (start bytes) ≡ Wanting
   pub cause : FailsToRead old new name
 
 -- 2^62 bytes of the file were read, and are the beginning of a header.
 pub record IsEndless (old new : ShelfState) (name : List ℕ) : Type 0 where
   pub bytes : List ℕ
-  pub read : ReadsFront old new name bytes
+  pub read : ReadsFileFront old new name bytes
   pub wanting : header no_limits (start bytes) ≡ Wanting
   pub count : length bytes ≡ 2 ^ 62
 
@@ -95,7 +95,7 @@ pub record IsEndless (old new : ShelfState) (name : List ℕ) : Type 0 where
 -- is the beginning of a header, and no read failed.
 pub record HeaderLacksMemory (old new : ShelfState) (name : List ℕ) : Type 0 where
   pub bytes : List ℕ
-  pub read : ReadsFront old new name bytes
+  pub read : ReadsFileFront old new name bytes
   pub last : APieceBehind (λ before. header no_limits (start before) ≡ Wanting) bytes
   pub faults : new.faults ≡ old.faults
 
@@ -112,14 +112,14 @@ FindsNoHeader old new name failure = ⊥
 pub record IsOpenedBy (old new : ShelfState) (before after : List KeyringMeaning)
     (m : AuditMessage) (openers : List ℕ) : Type 0 where
   pub header : HeaderValue
-  pub has : HasHeader old new m.from header
+  pub has : HasMessageHeader old new m.from header
   pub names : NamesOpeners before after header m.given openers
 
 -- The file has a header, and this is wrong with its pairs and those that are given.
-pub record HasOffence (old new : ShelfState) (m : AuditMessage) (fault : faults.Fault)
+pub record MessageHasOffence (old new : ShelfState) (m : AuditMessage) (fault : faults.Fault)
     : Type 0 where
   pub header : HeaderValue
-  pub has : HasHeader old new m.from header
+  pub has : HasMessageHeader old new m.from header
   pub offence : pair_offence header.stored m.given [] ≡ Some fault
 
 -- What was found of a message: of the leaves this is what they meant before and after. Where it has
@@ -128,30 +128,32 @@ abbrev pub FindsOf : ShelfState → ShelfState → (before after : List KeyringM
     → Audited → Type 0
 FindsOf old new before after m (OpenedBy openers) = IsOpenedBy old new before after m openers
 FindsOf old new before after m (Fault fault) =
-    (FindsHeader old new m.from (Err fault) ⊎ HasOffence old new m fault) × (after ≡ before)
+    (FindsMessageHeader old new m.from (Err fault) ⊎ MessageHasOffence old new m fault)
+    × (after ≡ before)
 
 -- The file has a header, nothing is wrong with its pairs, and a leaf failed.
 pub record LeafFails (old new : ShelfState) (before after : ℕ) (m : AuditMessage) : Type 0 where
   pub header : HeaderValue
-  pub has : HasHeader old new m.from header
+  pub has : HasMessageHeader old new m.from header
   pub sound : pair_offence header.stored m.given [] ≡ None
   pub rose : Rose before after
 
 -- Memory ran out while the header wasn't whole, or once it or its fault was found.
 abbrev pub AtHeader : ShelfState → ShelfState → (name : List ℕ) → Type 0
 AtHeader old new name = HeaderLacksMemory old new name
-    ⊎ ((found : Result HeaderValue faults.Fault) × FindsHeader old new name found)
+    ⊎ ((found : Result HeaderValue faults.Fault) × FindsMessageHeader old new name found)
 
 -- The file has a header, and nothing is wrong with its pairs.
 pub record HasSoundHeader (old new : ShelfState) (m : AuditMessage) : Type 0 where
   pub header : HeaderValue
-  pub has : HasHeader old new m.from header
+  pub has : HasMessageHeader old new m.from header
   pub sound : pair_offence header.stored m.given [] ≡ None
 
 -- Memory ran out so, and the count of faults is as it was; or it ran out once the header was found,
 -- with nothing wrong with its pairs.
-abbrev pub HasNoMemory : ShelfState → ShelfState → (before after : ℕ) → AuditMessage → Type 0
-HasNoMemory old new before after m =
+abbrev pub LacksMemoryForMessage : ShelfState → ShelfState → (before after : ℕ) → AuditMessage
+    → Type 0
+LacksMemoryForMessage old new before after m =
     (AtHeader old new m.from × (after ≡ before)) ⊎ HasSoundHeader old new m
 
 -- why nothing was found of a message, where so many faults of the tree were counted before and
@@ -160,7 +162,7 @@ abbrev pub FindsNotOf : ShelfState → ShelfState → (before after : ℕ) → A
     → Type 0
 FindsNotOf old new before after m (failures.Outside outsides.KeyringFault) =
     LeafFails old new before after m
-FindsNotOf old new before after m failures.Memory = HasNoMemory old new before after m
+FindsNotOf old new before after m failures.Memory = LacksMemoryForMessage old new before after m
 FindsNotOf old new before after m failure = FindsNoHeader old new m.from failure
 
 -- ---- each of them

@@ -4,7 +4,7 @@ ghost use Rattle.std.specs.Prelude.{◌≡◌, ◌<◌, ◌≤◌, ◌^◌, is_n
 ghost use Rattle.keyring_trait.specs.Keyring.{KeyringGoes};
 ghost use Rattle.message_format.specs.Judgement.{lock_fault};
 ghost use Rattle.multi_keyring.specs.Tree.{node_leaves, tree_meaning};
-ghost use Rattle.audit_core.specs.Asking.{JoinsNone, JoinsPairs, NamesNone, NamesOpeners};
+ghost use Rattle.audit_core.specs.Asking.{JoinsNone, JoinsGivenPairs, NamesNone, NamesOpeners};
 ghost use Rattle.audit_core.specs.Asking.{TriesLeaf, TriesNot};
 
 use crate::errors::AuditError;
@@ -54,7 +54,7 @@ pub fn audit_one<P: Keyring>(
 
 /// The pairs that the header stores, and those that the caller gives, joined.
 fn pairs_of(alloc: Global, header: &Header, given: &Context) -> Result<Joined, AuditError>
-    ensures pairs { IfOk result (JoinsPairs header.now given.now) }
+    ensures pairs { IfOk result (JoinsGivenPairs header.now given.now) }
     ensures cause { IfErr result (JoinsNone header.now given.now) }
 {
     match joined(alloc, header.stored(), given) {

@@ -1,6 +1,7 @@
 //! Laws about openers. A law is a function that does nothing: its contract is what is proved.
 
-ghost use Rattle.audit_core.specs.Laws.{FindsWhatCame, FindsWhatIsHeld, LeavesOpeners, NamesWhatOpens};
+ghost use Rattle.audit_core.specs.Laws.{FindsWhatCame, FindsWhatIsHeld, LeavesOpeners};
+ghost use Rattle.audit_core.specs.Laws.{NamesWhatOpens};
 ghost use Rattle.audit_core.specs.Laws.{OpenersUnlock, OpensWithout};
 
 /// A leaf stands in a message's line exactly where it unlocks the message by itself.

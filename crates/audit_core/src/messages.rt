@@ -3,9 +3,9 @@
 ghost use Rattle.std.specs.Prelude.{◌≡◌, ◌+◌, ◌<◌, ◌≤◌, ◌^◌, length, IfOk, IfErr};
 ghost use Rattle.keyring_trait.specs.Keyring.{KeyringGoes};
 ghost use Rattle.multi_keyring.specs.Tree.{node_leaves, tree_meaning};
-ghost use Rattle.audit_core.specs.MessageFiles.{FindsEach, FindsHeader, FindsNoHeader};
+ghost use Rattle.audit_core.specs.MessageFiles.{FindsEach, FindsMessageHeader, FindsNoHeader};
 ghost use Rattle.audit_core.specs.MessageFiles.{FindsNotEach, FindsNotOf, FindsOf};
-ghost use Rattle.audit_core.specs.Taking.{TakesHeader, TakesNone};
+ghost use Rattle.audit_core.specs.Taking.{TakesHeader, TakesNoHeader};
 
 use crate::asking::audit_one;
 use crate::audited::{Audited, Openers};
@@ -95,7 +95,8 @@ fn file_header<F: Shelf>(
     shelf: &mut F,
     name: &str,
 ) -> Result<Result<Header, Fault>, Failure>
-    ensures header { IfOk result (FindsHeader (F.state shelf.old) (F.state shelf.new) name.now) }
+    ensures header { IfOk result (FindsMessageHeader (F.state shelf.old) (F.state shelf.new)
+        name.now) }
     ensures cause { IfErr result (FindsNoHeader (F.state shelf.old) (F.state shelf.new) name.now) }
     ensures stays { (F.state shelf.new).files ≡ (F.state shelf.old).files }
 {
@@ -105,7 +106,7 @@ fn file_header<F: Shelf>(
 /// The header at the front of what is left of a file, or its fault.
 fn source_header<S: Source>(alloc: Global, input: &mut S) -> Result<Result<Header, Fault>, Failure>
     ensures header { IfOk result (TakesHeader (S.state input.old) (S.state input.new)) }
-    ensures cause { IfErr result (TakesNone (S.state input.old) (S.state input.new)) }
+    ensures cause { IfErr result (TakesNoHeader (S.state input.old) (S.state input.new)) }
     ensures taken { (S.state input.new).given ≤ (S.state input.old).given + 2 ^ 62 }
     ensures lasts { S.lasts input.old input.new }
 {

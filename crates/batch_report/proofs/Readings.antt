@@ -17,7 +17,7 @@ use Rattle.esdk_fields.specs.declared.faults.ContextFault.TheVariants as kinds
 use Rattle.esdk_fields.specs.declared.faults.Fault.TheVariants as faults
 use Rattle.esdk_fields.specs.declared.refusals.Refusal.TheVariants as refusals
 use Rattle.esdk_fields.specs.declared.refusals.Outside.TheVariants as outsides
-use Rattle.esdk_report.specs.Lines.{number_word, text_word, hex_word, kind_word as context_kind_word, fault_values, fault_line, refusal_values, refusal_line, outside_line}
+use Rattle.esdk_report.specs.Lines.{number_word, text_word, hex_word, fault_kind_word as context_kind_word, fault_values, fault_line, refusal_values, refusal_line, outside_line}
 use Rattle.batch_report.specs.declared.job_lines.JobEnd.{JobEnd}
 use Rattle.batch_report.specs.declared.job_lines.JobEnd.TheVariants as ends
 use Rattle.batch_report.specs.declared.job_lines.JobLine.{JobLine}
@@ -25,7 +25,7 @@ use Rattle.keyring_trait.specs.declared.journal.Kind.{Kind}
 use Rattle.keyring_trait.specs.declared.journal.Kind.TheVariants.{Seal, Unseal}
 use Rattle.keyring_trait.specs.declared.served.Served.{Served}
 use Rattle.keyring_trait.specs.declared.served.Served.TheVariants.{Direct, New, Hit}
-use Rattle.batch_report.specs.BatchReport.{end_word, job_line, kind_word, lines_from, served_word}
+use Rattle.batch_report.specs.BatchReport.{end_word, job_line, job_word, lines_from, served_word}
 use Rattle.batch_report.specs.Laws.{EndIsShort, IsShort, LineIsShort, ServedIsShort}
 
 -- ---- values
@@ -242,7 +242,7 @@ served_begins (Some (Hit number)) rest = ((codes "hit" ++ number_word number) ++
 
 -- ---- lines
 
-kind_first : (kind other : Kind) (rest more : List ℕ) → kind_word kind ++ rest ≡ kind_word other ++ more
+kind_first : (kind other : Kind) (rest more : List ℕ) → job_word kind ++ rest ≡ job_word other ++ more
     → (kind ≡ other) × (rest ≡ more)
 kind_first Seal Seal rest more is = (refl, append_cancel_left (codes " encrypt ") rest more is)
 kind_first Unseal Unseal rest more is = (refl, append_cancel_left (codes " decrypt ") rest more is)
@@ -268,7 +268,7 @@ served_first served other rest more short others is =
 
 -- a line, and what stands behind it
 line_text : (number : ℕ) (line : JobLine) (rest : List ℕ) → job_line number line ++ rest
-    ≡ codes "job" ++ (number_word number ++ (kind_word line.kind ++ (end_word line.end ++ (served_word line.served ++ 10 ∷ rest))))
+    ≡ codes "job" ++ (number_word number ++ (job_word line.kind ++ (end_word line.end ++ (served_word line.served ++ 10 ∷ rest))))
 unfolding job_line
 line_text number line rest = simp append_assoc
 

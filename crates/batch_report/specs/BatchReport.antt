@@ -1,5 +1,6 @@
 -- The text of a batch's report: a line for each job. It is this library's.
-use Rattle.std.specs.Prelude.{ℕ, ◌+◌, Bool, true, false, List, [], ◌∷◌, ◌++◌, codes, Option, Some, None}
+use Rattle.std.specs.Prelude.{ℕ, ◌+◌, Bool, true, false, List, [], ◌∷◌, ◌++◌, codes, Option, Some}
+use Rattle.std.specs.Prelude.{None}
 use Rattle.keyring_trait.specs.declared.journal.Kind.{Kind}
 use Rattle.keyring_trait.specs.declared.journal.Kind.TheVariants.{Seal, Unseal}
 use Rattle.keyring_trait.specs.declared.served.Served.{Served}
@@ -10,9 +11,9 @@ use Rattle.batch_report.specs.declared.job_lines.JobEnd.TheVariants as ends
 use Rattle.batch_report.specs.declared.job_lines.JobLine.{JobLine}
 
 -- what a job does, between spaces
-abbrev pub kind_word : Kind → List ℕ
-kind_word Seal = codes " encrypt "
-kind_word Unseal = codes " decrypt "
+abbrev pub job_word : Kind → List ℕ
+job_word Seal = codes " encrypt "
+job_word Unseal = codes " decrypt "
 
 -- how it ended
 abbrev pub end_word : JobEnd → List ℕ
@@ -30,7 +31,7 @@ served_word (Some (Hit number)) = codes " hit" ++ number_word number
 
 -- job N encrypt|decrypt done|.. new N|hit N|direct|none, and a line feed
 unfoldable pub job_line : ℕ → JobLine → List ℕ
-job_line number line = codes "job" ++ number_word number ++ kind_word line.kind ++ end_word line.end
+job_line number line = codes "job" ++ number_word number ++ job_word line.kind ++ end_word line.end
     ++ served_word line.served ++ 10 ∷ []
 
 -- the lines of these jobs, the first of which has this number

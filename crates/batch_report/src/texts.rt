@@ -1,7 +1,8 @@
 //! The text of a report.
 
 ghost use Rattle.std.specs.Prelude.{◌≡◌, ◌+◌, ◌++◌, IfOk, OnOk};
-ghost use Rattle.batch_report.specs.BatchReport.{kind_word, end_word, served_word, job_line, report_of};
+ghost use Rattle.batch_report.specs.BatchReport.{job_word, end_word, served_word, job_line};
+ghost use Rattle.batch_report.specs.BatchReport.{report_of};
 
 use crate::job_lines::{JobEnd, JobLine};
 use crate::report::BatchReport;
@@ -38,7 +39,7 @@ fn push_line(alloc: Global, number: u64, line: &JobLine, text: &mut Blob) -> Res
 
 /// A space, and what a job does; a space behind it.
 fn kind_word(kind: Kind) -> &'static [u8]
-    ensures { result.now ≡ kind_word kind }
+    ensures { result.now ≡ job_word kind }
 {
     match kind {
         Kind::Seal => b" encrypt ",

@@ -13,7 +13,7 @@ use Rattle.frame_codec.specs.UnitAad.{unit_aad}
 use Rattle.esdk_fields.specs.Limits.{is_over}
 use Rattle.frame_codec.specs.UnitHead.{longest_block, block_start, unit_head}
 use Rattle.frame_codec.specs.Rows.{long_number_at}
-use Rattle.frame_codec.specs.Unit.{Last, unit, block}
+use Rattle.frame_codec.specs.Unit.{Last, unit, block_unit}
 use Rattle.frame_codec.proofs.Fields.{place}
 use Rattle.frame_codec.proofs.Heads.{ReadsHead}
 use Rattle.frame_codec.proofs.Steps.{made_block, after_head}
@@ -22,7 +22,7 @@ use Rattle.frame_codec.proofs.Units.{opened_there, unit_wants, unit_reads, unit_
 use Rattle.frame_codec.proofs.Ways.{BlockShort, BlockLong, BlockOver, Block, block_way}
 use Rattle.body_format.specs.Rows.{slot, is_more, released, verdict_of, judged_at}
 use Rattle.body_format.specs.Body.{judged_block}
-use Rattle.body_format.specs.Table.{part, listed, good_block, block_verdict, tabled_block}
+use Rattle.body_format.specs.Table.{slice_at, listed, good_block, block_verdict, tabled_block}
 use Rattle.body_format.proofs.BodyRows.{block_row, block_last}
 use Rattle.body_format.specs.OneSlot.{IsTabledBlock}
 use Rattle.body_format.proofs.FrameTable.{ends_at, opened_is, none_or_some}
@@ -34,7 +34,7 @@ use Rattle.body_format.proofs.TableLaws.{released_last}
 
 -- the content of a block, as the table has it
 abbrev block_content : List ℕ → List ℕ → List ℕ → Option (List ℕ)
-block_content key id bytes = opened key (part 0 12 bytes) (unit_aad id kinds.Single 1 (long_number_at 12 bytes)) (part 20 (long_number_at 12 bytes) bytes) (part (20 + long_number_at 12 bytes) 16 bytes)
+block_content key id bytes = opened key (slice_at 0 12 bytes) (unit_aad id kinds.Single 1 (long_number_at 12 bytes)) (slice_at 20 (long_number_at 12 bytes) bytes) (slice_at (20 + long_number_at 12 bytes) 16 bytes)
 
 module _ (max_unit : Option ℕ) (key id bytes : List ℕ) where
   tabled_short : length bytes < 20 → IsTabledBlock max_unit key id bytes Wanting
@@ -82,10 +82,10 @@ module _ (max_unit : Option ℕ) (key id bytes : List ℕ) where
 -- ---- the reader
 
 head_tabled : (max_unit : Option ℕ) (key id bytes : List ℕ) (at : ℕ) → 20 ≤ length bytes → long_number_at 12 bytes ≤ longest_block → is_over max_unit (long_number_at 12 bytes) ≡ false
-    → ReadsHead contents.Single 1 max_unit bytes (made_block (part 0 12 bytes) (long_number_at 12 bytes)) → IsTabledBlock max_unit key id bytes (block max_unit key id (place at bytes))
-unfolding block
+    → ReadsHead contents.Single 1 max_unit bytes (made_block (slice_at 0 12 bytes) (long_number_at 12 bytes)) → IsTabledBlock max_unit key id bytes (block_unit max_unit key id (place at bytes))
+unfolding block_unit
 head_tabled max_unit key id bytes at there within under reads =
-    let head : UnitHead = made_block (part 0 12 bytes) (long_number_at 12 bytes) in
+    let head : UnitHead = made_block (slice_at 0 12 bytes) (long_number_at 12 bytes) in
     let opening = opened_is key id head bytes in
     elim (cases_lt (length bytes) (long_number_at 12 bytes + 36)) [
       | inl short ↦ subst (IsTabledBlock max_unit key id bytes) (sym (unit_wants contents.Single max_unit key id 1 bytes head at reads (omega arith))) (tabled_cut max_unit key id bytes there within under short)
@@ -96,11 +96,11 @@ head_tabled max_unit key id bytes at there within under reads =
       ]
     ]
 
-block_by : (max_unit : Option ℕ) (key id bytes : List ℕ) (at : ℕ) (r : Reading UnitHead) → block_start max_unit (place at bytes) ≡ r → block max_unit key id (place at bytes) ≡ then_read r (after_head key id)
-unfolding block unit unit_head
+block_by : (max_unit : Option ℕ) (key id bytes : List ℕ) (at : ℕ) (r : Reading UnitHead) → block_start max_unit (place at bytes) ≡ r → block_unit max_unit key id (place at bytes) ≡ then_read r (after_head key id)
+unfolding block_unit unit unit_head
 block_by max_unit key id bytes at r e = ap (λ (r : Reading UnitHead). then_read r (after_head key id)) e
 
-pub block_reads : (max_unit : Option ℕ) (key id bytes : List ℕ) (at : ℕ) → IsTabledBlock max_unit key id bytes (block max_unit key id (place at bytes))
+pub block_reads : (max_unit : Option ℕ) (key id bytes : List ℕ) (at : ℕ) → IsTabledBlock max_unit key id bytes (block_unit max_unit key id (place at bytes))
 unfolding unit_head
 block_reads max_unit key id bytes at =
     elim (block_way max_unit bytes) [
@@ -110,19 +110,19 @@ block_reads max_unit key id bytes at =
       | Block there within under is ↦ head_tabled max_unit key id bytes at there within under (record { inside = there; some = omega arith; is = is })
     ]
 
-not_more : (max_unit : Option ℕ) (key id : List ℕ) (p : Place) (b : Bool) → is_more (block max_unit key id p) ≡ b → is_more (block max_unit key id p) ≡ false
-not_more max_unit key id p true e = let read = more_read (block max_unit key id p) e in absurd (block_last max_unit key id p read.next read.content read.is)
+not_more : (max_unit : Option ℕ) (key id : List ℕ) (p : Place) (b : Bool) → is_more (block_unit max_unit key id p) ≡ b → is_more (block_unit max_unit key id p) ≡ false
+not_more max_unit key id p true e = let read = more_read (block_unit max_unit key id p) e in absurd (block_last max_unit key id p read.next read.content read.is)
 not_more max_unit key id p false e = e
 
 pub block_tabled : (max_unit : Option ℕ) (key id : List ℕ) (p : Place) → judged_block max_unit key id p ≡ tabled_block max_unit key id p.left
 unfolding judged_block tabled_block
 block_tabled max_unit key id p =
     let begin : p.at + 0 * 1 ≡ p.at = omega arith in
-    let here : slot 1 (λ k. block max_unit key id) p 0 ≡ block max_unit key id p = ap (λ (n : ℕ). block max_unit key id (place n p.left)) begin in
+    let here : slot 1 (λ k. block_unit max_unit key id) p 0 ≡ block_unit max_unit key id p = ap (λ (n : ℕ). block_unit max_unit key id (place n p.left)) begin in
     let other = not_more max_unit key id p _ refl in
     let tabled = block_reads max_unit key id p.left p.at in
-    let first = first_is 1 (λ k. block max_unit key id) p 0 (block_row max_unit key id) (λ k h. absurd (omega arith)) (ap is_more here ∙ other) in
-    judged_is 1 (λ k. block max_unit key id) p 0 first
-    ∙ same_judged (judged_at 1 (λ k. block max_unit key id) p 0) (record { units = listed (good_block max_unit key id p.left); verdict = block_verdict max_unit key id p.left })
-    (append-nil (released (slot 1 (λ k. block max_unit key id) p 0)) ∙ ap released here ∙ released_last (block max_unit key id p) other ∙ ap listed tabled.last)
+    let first = first_is 1 (λ k. block_unit max_unit key id) p 0 (block_row max_unit key id) (λ k h. absurd (omega arith)) (ap is_more here ∙ other) in
+    judged_is 1 (λ k. block_unit max_unit key id) p 0 first
+    ∙ same_judged (judged_at 1 (λ k. block_unit max_unit key id) p 0) (record { units = listed (good_block max_unit key id p.left); verdict = block_verdict max_unit key id p.left })
+    (append-nil (released (slot 1 (λ k. block_unit max_unit key id) p 0)) ∙ ap released here ∙ released_last (block_unit max_unit key id p) other ∙ ap listed tabled.last)
     (ap verdict_of here ∙ tabled.verdict)

@@ -9,7 +9,7 @@ use Rattle.esdk_fields.specs.Place.{Place, cut}
 use Rattle.esdk_fields.specs.Reading.{Reading, Wanting}
 use Rattle.esdk_fields.specs.Limits.{is_over}
 use Rattle.frame_codec.specs.UnitHead.{longest_block}
-use Rattle.frame_codec.specs.Unit.{Piece, Under, frame, block}
+use Rattle.frame_codec.specs.Unit.{Piece, Under, frame, block_unit}
 use Rattle.frame_codec.specs.Written.{single_block}
 use Rattle.body_format.specs.declared.verdicts.Verdict.TheVariants.{Going, Whole, Faulty}
 use Rattle.body_format.specs.Rows.{JudgedBody, is_more, released, behind_last, verdict_of}
@@ -18,7 +18,7 @@ use Rattle.body_format.specs.Written.{frame_count, pieces, regular_frames, frame
 use Rattle.body_format.proofs.BodyRows.{frames_row, block_row, no_frame}
 use Rattle.body_format.proofs.RowLaws.{Begins}
 use Rattle.body_format.proofs.RowLaws as rows
-use Rattle.body_format.specs.Laws.{Releases}
+use Rattle.body_format.specs.Laws.{FramesHaveCome}
 use Rattle.body_format.proofs.Released.{front_released}
 use Rattle.body_format.proofs.WrittenRows.{behind_frames, judged_behind}
 use Rattle.body_format.proofs.WrittenBodies.{framed_then, block_then}
@@ -32,28 +32,28 @@ under key id = record { key = key; id = id }
 pub fault_stays : (content : Content) (max_unit : Option ℕ) (key id : List ℕ) (p : Place) (n : ℕ) (fault : Fault) → p.at ≤ n
     → (judged_body content max_unit key id (cut n p)).verdict ≡ Faulty fault → judged_body content max_unit key id p ≡ judged_body content max_unit key id (cut n p)
 unfolding judged_body judged_frames judged_block
-fault_stays Single max_unit key id p n fault within h = rows.fault_stays 1 (λ k. block max_unit key id) p n fault (block_row max_unit key id) within h
+fault_stays Single max_unit key id p n fault within h = rows.fault_stays 1 (λ k. block_unit max_unit key id) p n fault (block_row max_unit key id) within h
 fault_stays (Framed size) max_unit key id p n fault within h = rows.fault_stays (size + beside_content) (frame size (under key id)) p n fault (frames_row size (under key id)) within h
 
 -- What was handed out of a front is what is handed out first of all bytes.
 pub units_front : (content : Content) (max_unit : Option ℕ) (key id : List ℕ) (p : Place) (n : ℕ) → p.at ≤ n
     → Begins (judged_body content max_unit key id (cut n p)).units (judged_body content max_unit key id p).units
 unfolding judged_body judged_frames judged_block
-units_front Single max_unit key id p n within = rows.units_front 1 (λ k. block max_unit key id) p n (block_row max_unit key id) within
+units_front Single max_unit key id p n within = rows.units_front 1 (λ k. block_unit max_unit key id) p n (block_row max_unit key id) within
 units_front (Framed size) max_unit key id p n within = rows.units_front (size + beside_content) (frame size (under key id)) p n (frames_row size (under key id)) within
 
 -- A byte behind what was whole is a fault.
 pub too_many : (content : Content) (max_unit : Option ℕ) (key id : List ℕ) (p : Place) (n : ℕ) → p.at ≤ n
     → (judged_body content max_unit key id (cut n p)).verdict ≡ Whole → n < p.at + length p.left → (judged_body content max_unit key id p).verdict ≡ Faulty TrailingBytes
 unfolding judged_body judged_frames judged_block
-too_many Single max_unit key id p n within whole more = rows.too_many 1 (λ k. block max_unit key id) p n (block_row max_unit key id) within whole more
+too_many Single max_unit key id p n within whole more = rows.too_many 1 (λ k. block_unit max_unit key id) p n (block_row max_unit key id) within whole more
 too_many (Framed size) max_unit key id p n within whole more = rows.too_many (size + beside_content) (frame size (under key id)) p n (frames_row size (under key id)) within whole more
 
 -- A front of what is whole is going.
 pub front_going : (content : Content) (max_unit : Option ℕ) (key id : List ℕ) (p : Place) (n : ℕ) → p.at ≤ n
     → (judged_body content max_unit key id p).verdict ≡ Whole → n < p.at + length p.left → (judged_body content max_unit key id (cut n p)).verdict ≡ Going
 unfolding judged_body judged_frames judged_block
-front_going Single max_unit key id p n within whole more = rows.front_going 1 (λ k. block max_unit key id) p n (block_row max_unit key id) within whole more
+front_going Single max_unit key id p n within whole more = rows.front_going 1 (λ k. block_unit max_unit key id) p n (block_row max_unit key id) within whole more
 front_going (Framed size) max_unit key id p n within whole more = rows.front_going (size + beside_content) (frame size (under key id)) p n (frames_row size (under key id)) within whole more
 
 -- ---- written bodies
@@ -84,7 +84,7 @@ block_whole max_unit key id iv text at len within limit =
 
 -- Of a front of a written body the whole frames so far are handed out.
 pub front_releases : (frame_length : ℕ) (u : Under) (text : List ℕ) (max_unit : Option ℕ) (at n : ℕ) → IsFramed frame_length text → at ≤ n → n < at + length (framed_body frame_length u text)
-    → (count : ℕ) × (Releases frame_length (length text) at n count
+    → (count : ℕ) × (FramesHaveCome frame_length (length text) at n count
     × (judged_body (Framed frame_length) max_unit u.key u.id (cut n (record { at = at; left = framed_body frame_length u text })) ≡ record { units = pieces frame_length text count; verdict = Going }))
 unfolding judged_body judged_frames
 front_releases frame_length u text max_unit at n framed within early =

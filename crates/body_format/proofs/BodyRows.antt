@@ -7,7 +7,7 @@ use Rattle.frame_codec.specs.declared.kinds.UnitKind.{UnitKind}
 use Rattle.frame_codec.specs.declared.kinds.UnitKind.TheVariants as kinds
 use Rattle.frame_codec.specs.declared.unit_heads.UnitHead.{UnitHead}
 use Rattle.frame_codec.specs.UnitHead.{unit_head, block_start}
-use Rattle.frame_codec.specs.Unit.{More, piece_of, Under, unit, frame, block}
+use Rattle.frame_codec.specs.Unit.{More, piece_of, Under, unit, frame, block_unit}
 use Rattle.frame_codec.proofs.Fields.{place}
 use Rattle.frame_codec.proofs.Order.{IsSequential-frame, IsSequential-block}
 use Rattle.frame_codec.proofs.Sizes.{frame_sized}
@@ -42,13 +42,13 @@ last_kind kinds.Final content text e f = cc
 last_kind kinds.Single content text e f = cc
 
 -- a block is never followed by another unit
-pub block_last : (max_unit : Option ℕ) (key id : List ℕ) (p next : Place) (content : List ℕ) → block max_unit key id p ≡ Read (More content) next → ⊥
-unfolding block unit_head
+pub block_last : (max_unit : Option ℕ) (key id : List ℕ) (p next : Place) (content : List ℕ) → block_unit max_unit key id p ≡ Read (More content) next → ⊥
+unfolding block_unit unit_head
 block_last max_unit key id p next content e =
     let r = unit_is_read contents.Single max_unit key id 1 p (More content) next e in
     last_kind r.head.kind content r.text (block_head max_unit p.left r.head _ (r.reads.is 0)) r.piece_is
 
-pub block_row : (max_unit : Option ℕ) (key id : List ℕ) → IsRow 1 (λ k. block max_unit key id)
+pub block_row : (max_unit : Option ℕ) (key id : List ℕ) → IsRow 1 (λ k. block_unit max_unit key id)
 block_row max_unit key id = record {
   wide = omega arith;
   sequential = λ k. IsSequential-block max_unit key id;

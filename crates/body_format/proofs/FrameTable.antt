@@ -22,7 +22,7 @@ use Rattle.frame_codec.proofs.Units.{opened_there, unit_wants, unit_reads, unit_
 use Rattle.frame_codec.proofs.Ways.{Short, Other, Numbered, Regular, Marked, FinalOther, FinalNumbered, FinalLong, Final, frame_way}
 use Rattle.body_format.specs.declared.verdicts.Verdict.TheVariants.{Whole, Faulty}
 use Rattle.body_format.specs.Rows.{behind_last}
-use Rattle.body_format.specs.Table.{part, good_regular, good_final, framed_verdict}
+use Rattle.body_format.specs.Table.{slice_at, good_regular, good_final, framed_verdict}
 use Rattle.body_format.specs.OneSlot.{IsTabled}
 
 -- ---- each way
@@ -66,7 +66,7 @@ tabled_cut frame_length u k bytes long plain same short = record {
 
 -- the content of a regular frame, as the table has it
 abbrev pub regular_content : ℕ → Under → ℕ → List ℕ → Option (List ℕ)
-regular_content frame_length u k bytes = opened u.key (part 4 12 bytes) (unit_aad u.id kinds.Regular (k + 1) frame_length) (part 16 frame_length bytes) (part (16 + frame_length) 16 bytes)
+regular_content frame_length u k bytes = opened u.key (slice_at 4 12 bytes) (unit_aad u.id kinds.Regular (k + 1) frame_length) (slice_at 16 frame_length bytes) (slice_at (16 + frame_length) 16 bytes)
 
 tabled_regular : (frame_length : ℕ) (u : Under) (k : ℕ) (bytes text : List ℕ) (next : Place) → is_final bytes ≡ false → eqb (number_at 0 bytes) (k + 1) ≡ true → frame_length + 32 ≤ length bytes
     → regular_content frame_length u k bytes ≡ Some text → IsTabled frame_length u k bytes (Read (More text) next)
@@ -131,7 +131,7 @@ tabled_final_cut frame_length u k bytes long marked same within short = record {
 
 -- the content of a final frame, as the table has it
 abbrev pub final_content : ℕ → Under → ℕ → List ℕ → Option (List ℕ)
-final_content frame_length u k bytes = opened u.key (part 8 12 bytes) (unit_aad u.id kinds.Final (k + 1) (number_at 20 bytes)) (part 24 (number_at 20 bytes) bytes) (part (24 + number_at 20 bytes) 16 bytes)
+final_content frame_length u k bytes = opened u.key (slice_at 8 12 bytes) (unit_aad u.id kinds.Final (k + 1) (number_at 20 bytes)) (slice_at 24 (number_at 20 bytes) bytes) (slice_at (24 + number_at 20 bytes) 16 bytes)
 
 tabled_final : (frame_length : ℕ) (u : Under) (k : ℕ) (bytes text : List ℕ) (at : ℕ) → is_final bytes ≡ true → eqb (number_at 4 bytes) (k + 1) ≡ true → ltb frame_length (number_at 20 bytes) ≡ false
     → number_at 20 bytes + 40 ≤ length bytes → final_content frame_length u k bytes ≡ Some text → IsTabled frame_length u k bytes (Read (Last text) (place at (drop (24 + number_at 20 bytes + 16) bytes)))
@@ -156,9 +156,9 @@ tabled_final_bad frame_length u k bytes at marked same within long bad = record 
 
 -- the tag and the content, as the reader takes them
 pub opened_is : (key id : List ℕ) (head : UnitHead) (bytes : List ℕ) → opened_there key id head (drop head.size bytes)
-    ≡ opened key head.iv (unit_aad id head.kind head.number head.length) (part head.size head.length bytes) (part (head.size + head.length) 16 bytes)
+    ≡ opened key head.iv (unit_aad id head.kind head.number head.length) (slice_at head.size head.length bytes) (slice_at (head.size + head.length) 16 bytes)
 unfolding opened_unit
-opened_is key id head bytes = ap (λ (l : List ℕ). opened key head.iv (unit_aad id head.kind head.number head.length) (part head.size head.length bytes) (take 16 l)) (drop-drop head.length head.size bytes)
+opened_is key id head bytes = ap (λ (l : List ℕ). opened key head.iv (unit_aad id head.kind head.number head.length) (slice_at head.size head.length bytes) (take 16 l)) (drop-drop head.length head.size bytes)
 
 -- a value, or none
 pub none_or_some : (o : Option (List ℕ)) → (o ≡ None) ⊎ ((x : List ℕ) × (o ≡ Some x))
@@ -166,10 +166,10 @@ none_or_some None = inl refl
 none_or_some (Some x) = inr (x, refl)
 
 regular_tabled : (frame_length : ℕ) (u : Under) (k at : ℕ) (bytes : List ℕ) → 16 ≤ length bytes → is_final bytes ≡ false → eqb (number_at 0 bytes) (k + 1) ≡ true
-    → ReadsHead (contents.Framed frame_length) (k + 1) None bytes (made_regular (k + 1) frame_length (part 4 12 bytes)) → IsTabled frame_length u k bytes (frame frame_length u k (place at bytes))
+    → ReadsHead (contents.Framed frame_length) (k + 1) None bytes (made_regular (k + 1) frame_length (slice_at 4 12 bytes)) → IsTabled frame_length u k bytes (frame frame_length u k (place at bytes))
 unfolding frame
 regular_tabled frame_length u k at bytes long plain same reads =
-    let head : UnitHead = made_regular (k + 1) frame_length (part 4 12 bytes) in
+    let head : UnitHead = made_regular (k + 1) frame_length (slice_at 4 12 bytes) in
     let opening = opened_is u.key u.id head bytes in
     elim (cases_lt (length bytes) (frame_length + 32)) [
       | inl short ↦ subst (IsTabled frame_length u k bytes) (sym (unit_wants (contents.Framed frame_length) None u.key u.id (k + 1) bytes head at reads (omega arith))) (tabled_cut frame_length u k bytes (omega arith) plain same short)
@@ -181,10 +181,10 @@ regular_tabled frame_length u k at bytes long plain same reads =
     ]
 
 final_tabled : (frame_length : ℕ) (u : Under) (k at : ℕ) (bytes : List ℕ) → 24 ≤ length bytes → is_final bytes ≡ true → eqb (number_at 4 bytes) (k + 1) ≡ true → ltb frame_length (number_at 20 bytes) ≡ false
-    → ReadsHead (contents.Framed frame_length) (k + 1) None bytes (made_final (k + 1) (part 8 12 bytes) (number_at 20 bytes)) → IsTabled frame_length u k bytes (frame frame_length u k (place at bytes))
+    → ReadsHead (contents.Framed frame_length) (k + 1) None bytes (made_final (k + 1) (slice_at 8 12 bytes) (number_at 20 bytes)) → IsTabled frame_length u k bytes (frame frame_length u k (place at bytes))
 unfolding frame
 final_tabled frame_length u k at bytes long marked same within reads =
-    let head : UnitHead = made_final (k + 1) (part 8 12 bytes) (number_at 20 bytes) in
+    let head : UnitHead = made_final (k + 1) (slice_at 8 12 bytes) (number_at 20 bytes) in
     let opening = opened_is u.key u.id head bytes in
     elim (cases_lt (length bytes) (number_at 20 bytes + 40)) [
       | inl short ↦ subst (IsTabled frame_length u k bytes) (sym (unit_wants (contents.Framed frame_length) None u.key u.id (k + 1) bytes head at reads (omega arith))) (tabled_final_cut frame_length u k bytes long marked same within short)

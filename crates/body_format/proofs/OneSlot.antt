@@ -12,7 +12,7 @@ use Rattle.frame_codec.specs.UnitHead.{is_final}
 use Rattle.frame_codec.specs.Rows.{number_at}
 use Rattle.frame_codec.specs.Unit.{Under, frame}
 use Rattle.body_format.specs.Body.{beside_content, judged_frames}
-use Rattle.body_format.specs.Table.{part, slot_bytes, good_regular, good_final, first_not_regular, decided_at, tabled_frames}
+use Rattle.body_format.specs.Table.{slice_at, slot_bytes, good_regular, good_final, first_not_regular, decided_at, tabled_frames}
 use Rattle.body_format.specs.Laws.{IsFirst}
 use Rattle.body_format.specs.OneSlot.{AreReadAlone}
 use Rattle.body_format.proofs.BodyRows.{frames_row}
@@ -69,7 +69,7 @@ regular_full frame_length u k bytes text e =
     let numbered : Bool = number_at 0 bytes == k + 1 in
     let held = test_holds (there && plain && numbered) (regular_content frame_length u k bytes) text e in
     let long : frame_length + 32 ≤ length bytes = not_less (length bytes) (frame_length + 32) _ refl (both there plain (both (there && plain) numbered held.0).0).0 in
-    let same = length_opened u.key (part 4 12 bytes) (unit_aad u.id kinds.Regular (k + 1) frame_length) (part 16 frame_length bytes) (part (16 + frame_length) 16 bytes) text held.1 in
+    let same = length_opened u.key (slice_at 4 12 bytes) (unit_aad u.id kinds.Regular (k + 1) frame_length) (slice_at 16 frame_length bytes) (slice_at (16 + frame_length) 16 bytes) text held.1 in
     omega (arith, same, long, length-take frame_length (drop 16 bytes), length-drop 16 bytes)
 
 pub final_short : (frame_length : ℕ) (u : Under) (k : ℕ) (bytes text : List ℕ) → good_final frame_length u k bytes ≡ Some text → length text ≤ frame_length
@@ -85,5 +85,5 @@ final_short frame_length u k bytes text e =
     let held = test_holds (first && narrow && whole) (final_content frame_length u k bytes) text e in
     let fourth : narrow ≡ true = (both first narrow (both (first && narrow) whole held.0).0).1 in
     let within : size ≤ frame_length = not_less frame_length size _ refl fourth in
-    let same = length_opened u.key (part 8 12 bytes) (unit_aad u.id kinds.Final (k + 1) size) (part 24 size bytes) (part (24 + size) 16 bytes) text held.1 in
+    let same = length_opened u.key (slice_at 8 12 bytes) (unit_aad u.id kinds.Final (k + 1) size) (slice_at 24 size bytes) (slice_at (24 + size) 16 bytes) text held.1 in
     omega (arith, within, same, length-take size (drop 24 bytes))

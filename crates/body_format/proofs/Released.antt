@@ -13,7 +13,7 @@ use Rattle.body_format.specs.declared.verdicts.Verdict.TheVariants.{Going, Whole
 use Rattle.body_format.specs.Rows.{slot, is_more, released, verdict_of, first_other, judged_units}
 use Rattle.body_format.specs.Body.{beside_content}
 use Rattle.body_format.specs.Written.{frame_count, piece, pieces, framed_body, IsFramed, AreFull}
-use Rattle.body_format.specs.Laws.{Releases}
+use Rattle.body_format.specs.Laws.{FramesHaveCome}
 use Rattle.body_format.proofs.BodyRows.{frames_row}
 use Rattle.body_format.proofs.CutReadings.{Cut, Unknown, KnownRead, KnownRefused, cut_cases}
 use Rattle.body_format.proofs.FrameCounts.{count_is}
@@ -90,7 +90,7 @@ released_by frame_length u text m more content at n end full last within going =
 -- The front of a body: so many frames are whole, and their pieces of the text are handed out.
 pub front_released : (frame_length : ℕ) (u : Under) (text : List ℕ) (at n : ℕ) → IsFramed frame_length text → at ≤ n
     → (judged_units (frame_length + beside_content) (frame frame_length u) (cut n (record { at = at; left = framed_body frame_length u text }))).verdict ≡ Going
-    → (count : ℕ) × (Releases frame_length (length text) at n count × ((judged_units (frame_length + beside_content) (frame frame_length u) (cut n (record { at = at; left = framed_body frame_length u text }))).units ≡ pieces frame_length text count))
+    → (count : ℕ) × (FramesHaveCome frame_length (length text) at n count × ((judged_units (frame_length + beside_content) (frame frame_length u) (cut n (record { at = at; left = framed_body frame_length u text }))).units ≡ pieces frame_length text count))
 unfolding framed_body
 front_released frame_length u text at n framed within going =
     let count : ℕ = frame_count (length text) frame_length in

@@ -10,7 +10,7 @@ use Rattle.esdk_fields.specs.Place.{Place}
 use Rattle.esdk_fields.specs.Reading.{Reading, Read}
 use Rattle.esdk_fields.specs.Limits.{is_over}
 use Rattle.frame_codec.specs.UnitHead.{longest_block}
-use Rattle.frame_codec.specs.Unit.{Piece, Last, Under, frame, block}
+use Rattle.frame_codec.specs.Unit.{Piece, Last, Under, frame, block_unit}
 use Rattle.frame_codec.specs.Written.{final_frame, single_block}
 use Rattle.frame_codec.proofs.WrittenAgain.{final_frame_again, single_block_again, length-final_frame}
 use Rattle.body_format.specs.Rows.{slot, is_more, released, behind_last, verdict_of, judged_at, judged_units, IsRow}
@@ -100,17 +100,17 @@ framed_then frame_length u text more at row framed =
 
 -- ---- the single block
 
-pub block_then : (max_unit : Option ℕ) (key id iv text more : List ℕ) (at : ℕ) → IsRow 1 (λ k. block max_unit key id) → length iv ≡ 12 → length text ≤ longest_block → is_over max_unit (length text) ≡ false
-    → judged_units 1 (λ k. block max_unit key id) (record { at = at; left = single_block key id iv text ++ more })
+pub block_then : (max_unit : Option ℕ) (key id iv text more : List ℕ) (at : ℕ) → IsRow 1 (λ k. block_unit max_unit key id) → length iv ≡ 12 → length text ≤ longest_block → is_over max_unit (length text) ≡ false
+    → judged_units 1 (λ k. block_unit max_unit key id) (record { at = at; left = single_block key id iv text ++ more })
     ≡ record { units = text ∷ []; verdict = behind_last more }
 block_then max_unit key id iv text more at row len within limit =
     let p : Place = record { at = at; left = single_block key id iv text ++ more } in
     let zero_on : at + 0 * 1 ≡ at = omega arith in
-    let here : slot 1 (λ k. block max_unit key id) p 0 ≡ Read (Last text) (record { at = at + (length text + 36); left = more }) =
-    ap (λ (n : ℕ). block max_unit key id (record { at = n; left = single_block key id iv text ++ more })) zero_on ∙ single_block_again max_unit key id iv text more at len within limit in
-    let first = first_is 1 (λ k. block max_unit key id) p 0 row (λ k h. absurd (omega arith)) (ap is_more here) in
-    judged_is 1 (λ k. block max_unit key id) p 0 first
-    ∙ same_judged (judged_at 1 (λ k. block max_unit key id) p 0) (record { units = text ∷ []; verdict = behind_last more })
+    let here : slot 1 (λ k. block_unit max_unit key id) p 0 ≡ Read (Last text) (record { at = at + (length text + 36); left = more }) =
+    ap (λ (n : ℕ). block_unit max_unit key id (record { at = n; left = single_block key id iv text ++ more })) zero_on ∙ single_block_again max_unit key id iv text more at len within limit in
+    let first = first_is 1 (λ k. block_unit max_unit key id) p 0 row (λ k h. absurd (omega arith)) (ap is_more here) in
+    judged_is 1 (λ k. block_unit max_unit key id) p 0 first
+    ∙ same_judged (judged_at 1 (λ k. block_unit max_unit key id) p 0) (record { units = text ∷ []; verdict = behind_last more })
     (ap (λ (r : Reading Piece). released r ++ []) here)
     (ap verdict_of here)
 

@@ -4,10 +4,11 @@
 use Rattle.std.specs.Prelude.{◌≡◌, ℕ, ◌+◌, ◌≤◌, List, length, false, Option, Some, None}
 use Rattle.esdk_fields.specs.Place.{Place}
 use Rattle.esdk_fields.specs.Reading.{Reading, Read, Refused, Wanting}
-use Rattle.frame_codec.specs.Unit.{Piece, More, Last, Under, frame, block}
+use Rattle.frame_codec.specs.Unit.{Piece, More, Last, Under, frame, block_unit}
 use Rattle.body_format.specs.Rows.{is_more, verdict_of, slot}
 use Rattle.body_format.specs.Body.{beside_content, judged_frames}
-use Rattle.body_format.specs.Table.{slot_bytes, good_regular, good_final, framed_verdict, decided_at, good_block, block_verdict}
+use Rattle.body_format.specs.Table.{slot_bytes, good_regular, good_final, framed_verdict}
+use Rattle.body_format.specs.Table.{decided_at, good_block, block_verdict}
 use Rattle.body_format.specs.Laws.{IsFirst}
 
 -- the content of a unit that others follow
@@ -48,17 +49,19 @@ pub record AreReadAlone (frame_length : ℕ) (u : Under) (p : Place) (k : ℕ) :
       (slot (frame_length + beside_content) (frame frame_length u) p k)
 
 abbrev pub ReadsSlotsAlone : Type 0
-ReadsSlotsAlone = (frame_length : ℕ) (u : Under) (p : Place) (k : ℕ) → AreReadAlone frame_length u p k
+ReadsSlotsAlone =
+    (frame_length : ℕ) (u : Under) (p : Place) (k : ℕ) → AreReadAlone frame_length u p k
 
 abbrev pub ReadsBlocksAlone : Type 0
 ReadsBlocksAlone = (max_unit : Option ℕ) (key id : List ℕ) (p : Place)
-    → IsTabledBlock max_unit key id p.left (block max_unit key id p)
+    → IsTabledBlock max_unit key id p.left (block_unit max_unit key id p)
 
 -- Where the slots before it are good regular ones, and it isn't one, a slot decides of the whole
 -- body.
 abbrev pub DecidesForAll : Type 0
 DecidesForAll = (frame_length : ℕ) (u : Under) (p : Place) (n : ℕ)
-    → IsFirst frame_length u p.left n → judged_frames frame_length u p ≡ decided_at frame_length u p.left n
+    → IsFirst frame_length u p.left n
+    → judged_frames frame_length u p ≡ decided_at frame_length u p.left n
 
 -- The content of a good regular slot has the frame length, so byte i of the content of slot k is
 -- byte k * frame_length + i of the body's; that of a good final slot has at most so many bytes.

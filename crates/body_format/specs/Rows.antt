@@ -1,9 +1,11 @@
--- Units one after another. All of them but the last have one width, so the place of each is found by multiplication.
-use Rattle.std.specs.Prelude.{◌≡◌, ℕ, ◌+◌, ◌*◌, ◌≤◌, List, [], ◌∷◌, length, Bool, true, false, ◌==◌, if◌then◌else◌}
+-- Units one after another. All of them but the last have one width, so the place of each is found
+-- by multiplication.
+use Rattle.std.specs.Prelude.{◌≡◌, ℕ, ◌+◌, ◌*◌, ◌≤◌, List, [], ◌∷◌, length, Bool, true, false, ◌==◌}
+use Rattle.std.specs.Prelude.{if◌then◌else◌}
 use Rattle.std.specs.List.{flat_map, prefix_len, range_with_len}
 use Rattle.esdk_fields.specs.declared.faults.Fault.TheVariants.{TrailingBytes}
 use Rattle.esdk_fields.specs.Place.{Place, past}
-use Rattle.esdk_fields.specs.Reading.{Reading, Read, Refused, Wanting, Reader}
+use Rattle.esdk_fields.specs.Reading.{Reading, Read, Refused, Wanting, FieldReader}
 use Rattle.esdk_fields.specs.Sequential.{IsSequential}
 use Rattle.frame_codec.specs.Unit.{Piece, More, Last}
 use Rattle.body_format.specs.declared.verdicts.Verdict.{Verdict}
@@ -12,7 +14,7 @@ use Rattle.body_format.specs.declared.verdicts.Verdict.TheVariants.{Going, Whole
 -- ---- slots
 
 -- what is read at slot k of a body that begins at this place, unit k being read so
-abbrev pub slot : ℕ → (ℕ → Reader Piece) → Place → ℕ → Reading Piece
+abbrev pub slot : ℕ → (ℕ → FieldReader Piece) → Place → ℕ → Reading Piece
 slot width unit p k = unit k (past (k * width) p)
 
 -- a whole unit that another one follows
@@ -22,9 +24,11 @@ is_more (Read (Last content) next) = false
 is_more (Refused fault at) = false
 is_more Wanting = false
 
--- the least k such that no whole unit that another one follows stands at slot k: a unit has at least one byte, so there are at most as many slots before it as there are bytes
-unfoldable pub first_other : ℕ → (ℕ → Reader Piece) → Place → ℕ
-first_other width unit p = prefix_len (λ k. is_more (slot width unit p k)) (range_with_len 0 (length p.left))
+-- the least k such that no whole unit that another one follows stands at slot k: a unit has at
+-- least one byte, so there are at most as many slots before it as there are bytes
+unfoldable pub first_other : ℕ → (ℕ → FieldReader Piece) → Place → ℕ
+first_other width unit p =
+    prefix_len (λ k. is_more (slot width unit p k)) (range_with_len 0 (length p.left))
 
 -- ---- what is judged
 
@@ -51,19 +55,21 @@ verdict_of (Refused fault at) = Faulty fault
 verdict_of Wanting = Going
 
 -- the contents of slots 0 to n, and what is said at slot n
-abbrev pub judged_at : ℕ → (ℕ → Reader Piece) → Place → ℕ → JudgedBody
+abbrev pub judged_at : ℕ → (ℕ → FieldReader Piece) → Place → ℕ → JudgedBody
 judged_at width unit p n = record {
   units = flat_map (λ k. released (slot width unit p k)) (range_with_len 0 (n + 1));
   verdict = verdict_of (slot width unit p n);
 }
 
-unfoldable pub judged_units : ℕ → (ℕ → Reader Piece) → Place → JudgedBody
+unfoldable pub judged_units : ℕ → (ℕ → FieldReader Piece) → Place → JudgedBody
 judged_units width unit p = judged_at width unit p (first_other width unit p)
 
 -- ---- rows
 
--- Units are read from left to right, each at its last byte; and a unit that another one follows has exactly the width, which isn't 0.
-pub record IsRow (width : ℕ) (unit : ℕ → Reader Piece) : Type 0 where
+-- Units are read from left to right, each at its last byte; and a unit that another one follows has
+-- exactly the width, which isn't 0.
+pub record IsRow (width : ℕ) (unit : ℕ → FieldReader Piece) : Type 0 where
   pub wide : 1 ≤ width
   pub sequential : (k : ℕ) → IsSequential (unit k)
-  pub sized : (k : ℕ) (p next : Place) (content : List ℕ) → unit k p ≡ Read (More content) next → (width ≤ length p.left) × (next ≡ past width p)
+  pub sized : (k : ℕ) (p next : Place) (content : List ℕ) → unit k p ≡ Read (More content) next
+      → (width ≤ length p.left) × (next ≡ past width p)

@@ -1,7 +1,12 @@
 //! Laws about bodies. A law is a function that does nothing: its contract is what is proved.
 
-ghost use Rattle.body_format.specs.Laws.{JudgesFramesByTheTable, JudgesBlocksByTheTable, FindsTheFirst, FaultsStay, UnitsStay, RefusesTrailingBytes, FrontsAreGoing, FramedBodiesAreWhole, PiecesAreTheText, BlocksAreWhole, HasFramedSize, FrontsReleaseFrames, ReleasesFullFrames};
-ghost use Rattle.body_format.specs.OneSlot.{ReadsSlotsAlone, ReadsBlocksAlone, DecidesForAll, FillsRegularSlots, KeepsFinalSlotsShort};
+ghost use Rattle.body_format.specs.Laws.{JudgesFramesByTheTable, JudgesBlocksByTheTable};
+ghost use Rattle.body_format.specs.Laws.{FindsTheFirst, BodyFaultsStay, BodyUnitsStay};
+ghost use Rattle.body_format.specs.Laws.{BodyRefusesTrailingBytes, FrontsAreGoing};
+ghost use Rattle.body_format.specs.Laws.{FramedBodiesAreWhole, PiecesAreTheText, BlocksAreWhole};
+ghost use Rattle.body_format.specs.Laws.{HasFramedSize, FrontsReleaseFrames, ReleasesFullFrames};
+ghost use Rattle.body_format.specs.OneSlot.{ReadsSlotsAlone, ReadsBlocksAlone, DecidesForAll};
+ghost use Rattle.body_format.specs.OneSlot.{FillsRegularSlots, KeepsFinalSlotsShort};
 
 /// A body is judged as the table says, which has no reader in it: where a unit is good, the first
 /// slot that isn't a good regular frame, and the verdicts line by line. The offset where the body
@@ -26,17 +31,17 @@ pub fn slots_are_read_alone()
 
 /// A fault stays when bytes follow, and with it what was handed out before it.
 pub fn faults_stay()
-    ensures { FaultsStay }
+    ensures { BodyFaultsStay }
 {}
 
 /// What is handed out of a front of a body is what is handed out first of all of it.
 pub fn released_units_stay()
-    ensures { UnitsStay }
+    ensures { BodyUnitsStay }
 {}
 
 /// A byte behind a whole body is M22.
 pub fn trailing_bytes_are_refused()
-    ensures { RefusesTrailingBytes }
+    ensures { BodyRefusesTrailingBytes }
 {}
 
 /// A front of a whole body has no fault and isn't whole.

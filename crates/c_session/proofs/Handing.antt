@@ -5,11 +5,11 @@ use Rattle.std.proofs.lemmas.List.{drop-append-le, drop-drop, drop_all, length-d
 use Rattle.std.proofs.lemmas.List.Elements.{All-append, All-cons, All-head, All-nil, All-tail}
 use Rattle.esdk_seen.specs.Calls.{ShelfCall, announces, reads}
 use Rattle.whole_input.specs.FileReads.{AgreesWithCall, AgreesWithRead, Grows, IsReadAs}
-use Rattle.c_session.specs.Handed.{AgreesSoFar, Gives, Handed, HasHanded, end_note, notes_of, part_end, the_message}
+use Rattle.c_session.specs.Handed.{AgreesSoFar, FillsRoom, HandedPart, HasHanded, end_note, notes_of, part_end, the_message}
 
 -- ---- what a message has that has the bytes
 
-module _ (h : Handed) (message : List ℕ) (has : HasHanded h message) where
+module _ (h : HandedPart) (message : List ℕ) (has : HasHanded h message) where
   abbrev part_note : ShelfCall
   part_note = reads the_message h.offset h.part
 
@@ -52,16 +52,16 @@ behind_agrees message end to far none =
     let all : drop to message ≡ [] = drop_all to message (omega (arith, far, ap (length {A = ℕ}) none, length-drop end message)) in
     (all ∙ sym (ap (λ (n : ℕ). drop n message) (let same : to + 0 ≡ to = omega arith in same) ∙ all), λ none. all)
 
-pub front_left : (h : Handed) (at : ℕ) (left : List ℕ) → at < length h.front → left ≡ drop at h.front → (message : List ℕ) → HasHanded h message → AgreesWithRead message at left
+pub front_left : (h : HandedPart) (at : ℕ) (left : List ℕ) → at < length h.front → left ≡ drop at h.front → (message : List ℕ) → HasHanded h message → AgreesWithRead message at left
 front_left h at left some is message has =
     subst (AgreesWithRead message at) (sym is) (within_agrees message h.front 0 at at (omega arith) some (has_front h message has))
 
-pub part_left : (h : Handed) (at from : ℕ) (left : List ℕ) → at ≡ h.offset + from → from < length h.part → left ≡ drop from h.part → (message : List ℕ) → HasHanded h message
+pub part_left : (h : HandedPart) (at from : ℕ) (left : List ℕ) → at ≡ h.offset + from → from < length h.part → left ≡ drop from h.part → (message : List ℕ) → HasHanded h message
     → AgreesWithRead message at left
 part_left h at from left at_is some is message has =
     subst (AgreesWithRead message at) (sym is) (within_agrees message h.part h.offset from at at_is some (has_part h message has))
 
-pub none_left : (h : Handed) (at from : ℕ) (left : List ℕ) → at ≡ h.offset + from → length h.part ≤ from → h.ends ≡ true → left ≡ [] → (message : List ℕ) → HasHanded h message
+pub none_left : (h : HandedPart) (at from : ℕ) (left : List ℕ) → at ≡ h.offset + from → length h.part ≤ from → h.ends ≡ true → left ≡ [] → (message : List ℕ) → HasHanded h message
     → AgreesWithRead message at left
 none_left h at from left at_is far ends is message has =
     subst (AgreesWithRead message at) (sym is) (behind_agrees message (part_end h) at (omega (arith, at_is, far)) (has_end h message has ends))
@@ -80,7 +80,7 @@ given_agrees message left piece at count agrees most is none =
     )
 
 -- one read more agrees
-pub read_agrees : (h : Handed) (old new : List ShelfCall) (name left room : List ℕ) (at count : ℕ) → AgreesSoFar h old → Gives left room count
+pub read_agrees : (h : HandedPart) (old new : List ShelfCall) (name left room : List ℕ) (at count : ℕ) → AgreesSoFar h old → FillsRoom left room count
     → ((message : List ℕ) → HasHanded h message → AgreesWithRead message at left) → new ≡ old ++ reads name at (take count room) ∷ []
     → AgreesSoFar h new
 read_agrees h old new name left room at count so gives agrees is = record {
@@ -95,7 +95,7 @@ read_agrees h old new name left room at count so gives agrees is = record {
 }
 
 -- nothing was read yet
-pub agrees_first : (h : Handed) (calls : List ShelfCall) → calls ≡ notes_of h → AgreesSoFar h calls
+pub agrees_first : (h : HandedPart) (calls : List ShelfCall) → calls ≡ notes_of h → AgreesSoFar h calls
 agrees_first h calls is = record {
   made = [];
   so_far = is;
@@ -105,7 +105,7 @@ agrees_first h calls is = record {
 -- ---- all reads
 
 -- each message that has the bytes is the file that was read
-pub read_as : (h g : Handed) (old new : List ShelfCall) → old ≡ notes_of h → Grows old new → AgreesSoFar g new → (message : List ℕ) → HasHanded h message → IsReadAs old new the_message message
+pub read_as : (h g : HandedPart) (old new : List ShelfCall) → old ≡ notes_of h → Grows old new → AgreesSoFar g new → (message : List ℕ) → HasHanded h message → IsReadAs old new the_message message
 read_as h g old new noted grows so message has =
     let both : notes_of h ++ grows.0 ≡ notes_of g ++ so.made = ap (λ (calls : List ShelfCall). calls ++ grows.0) (sym noted) ∙ sym grows.1 ∙ so.so_far in
     let notes : notes_of h ≡ notes_of g = ap (take 3) both in

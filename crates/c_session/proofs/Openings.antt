@@ -5,6 +5,7 @@ use Rattle.esdk_fields.specs.declared.faults.Fault.{Fault}
 use Rattle.esdk_fields.specs.declared.faults.Fault.TheVariants.{Truncated}
 use Rattle.esdk_base.specs.declared.receiver.FeedError.{FeedError}
 use Rattle.esdk_base.specs.declared.receiver.FeedError.TheVariants as feeding
+use Rattle.esdk_base.specs.Receiver.{Gathers}
 use Rattle.context_codec.specs.Context.{KeyValue}
 use Rattle.header_codec.specs.declared.settings.Settings.{Settings}
 use Rattle.keyring_trait.specs.Manager.{ManagerNow, Went}
@@ -18,41 +19,41 @@ use Rattle.stream_open.specs.declared.errors.OpenError.TheVariants as errors
 use Rattle.stream_open.specs.declared.session.Opener.{Opener}
 use Rattle.stream_open.specs.Asking.{Heard}
 use Rattle.stream_open.specs.Feeding.{judged_all}
-use Rattle.stream_open.specs.Receiving.{FedTo, FeedsPiece}
-use Rattle.stream_open.specs.Session.{OpeningValue, answer_kept, asked_header, end_of, finish_answer, is_faulty, judged_now, keeping, new_session}
+use Rattle.stream_open.specs.Receiving.{FedTo, FeedsOpenerPiece}
+use Rattle.stream_open.specs.Session.{OpeningValue, answer_kept, asked_header, end_of_verdict, opening_finish_answer, is_faulty, judged_now, keeping, new_opening_session}
 use Rattle.stream_open.specs.Stands.{Stands}
 use Rattle.stream_open.proofs.AnyCut.{kept_none}
 use Rattle.stream_open.proofs.FedPieces.{fed_as_one, heard_as, joins}
 use Rattle.stream_open.proofs.Feeding.{ends_so, opened_goes}
 use Rattle.stream_open.proofs.PieceEnds.{whole_none}
 use Rattle.c_session.specs.declared.reason.Reason.TheVariants as reasons
-use Rattle.c_session.specs.Opening.{BreaksOff, Opens, OpensEnd, OpensPiece, Releases, unopened_as}
+use Rattle.c_session.specs.Opening.{BreaksOff, SessionOpens, OpensEnd, SessionOpensPiece, SessionReleases, unopened_as}
 use Rattle.c_session.specs.Sealing.{IsFrontOf}
-use Rattle.c_session.specs.Waiting.{Gathers, GathersFront}
+use Rattle.c_session.specs.Waiting.{GathersFront}
 use Rattle.c_session.proofs.Sealings.{behind, front_behind}
 
 pub opens_first : {M : Type 0} (state : M → ManagerNow) (manager : M) (opener : Opener) (settings : Settings) (pairs : List KeyValue)
-    → Stands opener (new_session settings pairs) → Went (state manager) (state manager)
-    → Opens state manager manager opener [] settings pairs [] []
+    → Stands opener (new_opening_session settings pairs) → Went (state manager) (state manager)
+    → SessionOpens state manager manager opener [] settings pairs [] []
 opens_first state manager opener settings pairs stands stays =
-    let first = whole_none state (λ (a b : Unit {0}) (bytes : List ℕ). Unit {0}) 0 (new_session settings pairs) manager tt opener
+    let first = whole_none state (λ (a b : Unit {0}) (bytes : List ℕ). Unit {0}) 0 (new_opening_session settings pairs) manager tt opener
     (opened_goes settings pairs) stands (λ r. tt) in
     record { fed = first.fed; all = (kept_none settings pairs).released; went = stays }
 
 module _ {M : Type 0} (state : M → ManagerNow) (begun old : M) (opener : Opener) (before waiting : List ℕ)
     (settings : Settings) (pairs : List KeyValue) (taken given : List ℕ)
-    (opens : Opens state begun old opener before settings pairs taken given) where
+    (opens : SessionOpens state begun old opener before settings pairs taken given) where
   abbrev first : OpeningValue
-  first = new_session settings pairs
+  first = new_opening_session settings pairs
 
   abbrev session : OpeningValue
   session = opens.fed.session
 
   -- a piece was fed
   pub piece_opened : (piece : List ℕ) (new : M) (next : Opener) → Went (state old) (state new)
-      → FeedsPiece {E = AllocError} {T = Unit {0}} state Gathers (λ a b bytes error. GathersFront a b bytes) 0
+      → FeedsOpenerPiece {E = AllocError} {T = Unit {0}} state Gathers (λ a b bytes error. GathersFront a b bytes) 0
       session piece old new before waiting next (Ok tt)
-      → OpensPiece {T = Unit {0}} state begun new next waiting settings pairs taken piece given (Ok tt)
+      → SessionOpensPiece {T = Unit {0}} state begun new next waiting settings pairs taken piece given (Ok tt)
   piece_opened piece new next went whole =
       let more : List ℕ = whole.given in
       let put : given ++ waiting ≡ (given ++ before) ++ more =
@@ -79,9 +80,9 @@ module _ {M : Type 0} (state : M → ManagerNow) (begun old : M) (opener : Opene
 
   -- it has a fault
   fault_found : (piece : List ℕ) (new : M) (next : Opener) (fault : Fault)
-      → FeedsPiece {E = AllocError} {T = Unit {0}} state Gathers (λ a b bytes error. GathersFront a b bytes) 0
+      → FeedsOpenerPiece {E = AllocError} {T = Unit {0}} state Gathers (λ a b bytes error. GathersFront a b bytes) 0
       session piece old new before waiting next (Err (feeding.Machine (errors.Fault fault)))
-      → OpensPiece {T = Unit {0}} state begun new next waiting settings pairs taken piece given (Err (reasons.Fault fault))
+      → SessionOpensPiece {T = Unit {0}} state begun new next waiting settings pairs taken piece given (Err (reasons.Fault fault))
   fault_found piece new next fault short =
       let given_pairs : session.given ≡ pairs = opens.fed.feeds.pairs in
       let j = joins state 0 first taken piece (given ++ before) begun old new opener opens.fed
@@ -116,9 +117,9 @@ module _ {M : Type 0} (state : M → ManagerNow) (begun old : M) (opener : Opene
 
   -- it wasn't, for this reason
   pub piece_not : (piece : List ℕ) (new : M) (next : Opener) (error : FeedError OpenError AllocError)
-      → FeedsPiece {T = Unit {0}} state Gathers (λ a b bytes (error : AllocError). GathersFront a b bytes) 0
+      → FeedsOpenerPiece {T = Unit {0}} state Gathers (λ a b bytes (error : AllocError). GathersFront a b bytes) 0
       session piece old new before waiting next (Err error)
-      → OpensPiece {T = Unit {0}} state begun new next waiting settings pairs taken piece given (Err (unopened_as error))
+      → SessionOpensPiece {T = Unit {0}} state begun new next waiting settings pairs taken piece given (Err (unopened_as error))
   piece_not piece new next (feeding.Machine (errors.Fault fault)) short = fault_found piece new next fault short
   piece_not piece new next (feeding.Machine errors.KeyringFault) short = untaken piece short.given short.why.1 short.nothing
   piece_not piece new next (feeding.Machine errors.Memory) short = untaken piece short.given short.why.1 short.nothing
@@ -143,14 +144,14 @@ module _ {M : Type 0} (state : M → ManagerNow) (begun old : M) (opener : Opene
 
   -- ---- the end
 
-  whole_at : (verdict : Verdict) → end_of verdict ≡ Ok tt → verdict ≡ Whole
+  whole_at : (verdict : Verdict) → end_of_verdict verdict ≡ Ok tt → verdict ≡ Whole
   whole_at Going e = absurd (let wrong : Err (errors.Fault Truncated) ≡ Ok tt = e in cc)
   whole_at Whole e = refl
   whole_at (Faulty fault) e = absurd (let wrong : Err (errors.Fault fault) ≡ Ok tt = e in cc)
 
   -- the bytes taken, judged from the beginning
   releases : (verdict : Verdict) → (judged_now session).verdict ≡ verdict
-      → Releases state begun old before settings pairs taken given verdict
+      → SessionReleases state begun old before settings pairs taken given verdict
   releases verdict is =
       let same : judged_now session ≡ judged_all first taken opens.fed.heard =
       λ i. judged (opens.fed.feeds.taken i) (opens.fed.feeds.settings i) (answer_kept (opens.fed.answer i)) in
@@ -161,13 +162,13 @@ module _ {M : Type 0} (state : M → ManagerNow) (begun old : M) (opener : Opene
         all = opens.all ∙ ap content same;
       }
 
-  pub end_whole : Ok tt ≡ finish_answer session
+  pub end_whole : Ok tt ≡ opening_finish_answer session
       → OpensEnd {T = Unit {0}} state begun old before settings pairs taken given (Ok tt)
   end_whole is =
       releases Whole (whole_at (judged_now session).verdict (sym (ends_so session opens.fed.feeds.goes) ∙ sym is))
 
   not_whole : (verdict : Verdict) (error : OpenError) → is_faulty verdict ≡ false → (judged_now session).verdict ≡ verdict
-      → Err error ≡ end_of verdict
+      → Err error ≡ end_of_verdict verdict
       → OpensEnd {T = Unit {0}} state begun old before settings pairs taken given (Err (unopened_as {E = AllocError} (feeding.Machine error)))
   not_whole Going error sound is e =
       let same : error ≡ errors.Fault Truncated = cc in
@@ -177,7 +178,7 @@ module _ {M : Type 0} (state : M → ManagerNow) (begun old : M) (opener : Opene
   not_whole Whole error sound is e = absurd (let wrong : Err error ≡ Ok tt = e in cc)
   not_whole (Faulty fault) error sound is e = absurd (let wrong : true ≡ false = sound in cc)
 
-  pub end_not_whole : (error : OpenError) → Err error ≡ finish_answer session
+  pub end_not_whole : (error : OpenError) → Err error ≡ opening_finish_answer session
       → OpensEnd {T = Unit {0}} state begun old before settings pairs taken given (Err (unopened_as {E = AllocError} (feeding.Machine error)))
   end_not_whole error is =
       not_whole (judged_now session).verdict error opens.fed.feeds.goes.sound refl (is ∙ ends_so session opens.fed.feeds.goes)

@@ -4,12 +4,12 @@ use Rattle.std.specs.Io.KnownBytes.{Appends}
 use Rattle.esdk_fields.specs.declared.refusals.Outside.TheVariants as outsides
 use Rattle.esdk_base.specs.Streams.{ShelfState, SinkState}
 use Rattle.whole_input.specs.FileReads.{Grows, IsSeenAs}
-use Rattle.esdk_decrypt.specs.Decrypt.{Asked}
+use Rattle.esdk_decrypt.specs.Decrypt.{DecryptAsked}
 use Rattle.extract_core.specs.declared.errors.ExtractError.{ExtractError}
 use Rattle.extract_core.specs.declared.errors.ExtractError.TheVariants as extracts
 use Rattle.extract_core.specs.Extract.{ExtractEnds, Extracts}
 use Rattle.extract_core.specs.Extracted.{ByteRange}
-use Rattle.c_session.specs.Handed.{AgreesSoFar, Handed, HasHanded, notes_of, the_message}
+use Rattle.c_session.specs.Handed.{AgreesSoFar, HandedPart, HasHanded, notes_of, the_message}
 use Rattle.c_session.specs.declared.no_range.NoRange.{NoRange}
 use Rattle.c_session.specs.declared.no_range.NoRange.TheVariants as errors
 use Rattle.c_session.specs.declared.reason.Reason.TheVariants as reasons
@@ -20,7 +20,7 @@ use Rattle.c_session.specs.Session.{setting_answer, with_its_keys}
 use Rattle.header_codec.specs.declared.settings.Settings.{Settings}
 use Rattle.c_session.proofs.Handing.{read_as}
 
-module _ (question : Asked) (h g : Handed) (range : ByteRange) (old new : ShelfState) (output put : SinkState) (noted : old.calls ≡ notes_of h)
+module _ (question : DecryptAsked) (h g : HandedPart) (range : ByteRange) (old new : ShelfState) (output put : SinkState) (noted : old.calls ≡ notes_of h)
     (grows : Grows old.calls new.calls) (so : AgreesSoFar g new.calls) where
   seen : (message : List ℕ) → HasHanded h message → IsSeenAs old new the_message message
   seen message has = inr (read_as h g old.calls new.calls noted grows so message has)
@@ -61,7 +61,7 @@ module _ (question : Asked) (h g : Handed) (range : ByteRange) (old new : ShelfS
 
 -- ---- of a session that is set up
 
-own_range : (old new : Session Tree) (h : Handed) (settings : Settings) (range : ByteRange) (came : Result (List ℕ) NoRange) → setting_answer old ≡ None
+own_range : (old new : Session Tree) (h : HandedPart) (settings : Settings) (range : ByteRange) (came : Result (List ℕ) NoRange) → setting_answer old ≡ None
     → TakesRange old new (with_its_keys old) h settings range came → RangesSession old new h settings range came
 own_range old new h settings range (Ok text) none takes = (none, takes)
 own_range old new h settings range (Err (errors.Call answer)) none takes = absurd takes.comes
@@ -73,7 +73,7 @@ own_range old new h settings range (Err (errors.Reason (reasons.Fault fault))) n
 own_range old new h settings range (Err (errors.Reason (reasons.Refusal refusal))) none takes = (none, takes)
 own_range old new h settings range (Err (errors.Reason reasons.Keyring)) none takes = (none, takes)
 
-pub range_of_session : (old new : Session Tree) (h : Handed) (settings : Settings) (range : ByteRange) (keys : List (List ℕ)) (came : Result (List ℕ) NoRange)
+pub range_of_session : (old new : Session Tree) (h : HandedPart) (settings : Settings) (range : ByteRange) (keys : List (List ℕ)) (came : Result (List ℕ) NoRange)
     → setting_answer old ≡ None → keys ≡ old.required → TakesRange old new (old.manager.0, keys) h settings range came → RangesSession old new h settings range came
 range_of_session old new h settings range keys came none own takes =
     own_range old new h settings range came none

@@ -2,24 +2,25 @@
 use Rattle.std.proofs.Common.{◌≡◌, ◌∙◌, ◌≤◌, ℕ, List, [], ◌++◌, true, false, Option, Ok, Err, sym, ap, subst, append_assoc, append-nil}
 use Rattle.esdk_base.specs.declared.receiver.FeedError.{FeedError}
 use Rattle.esdk_base.specs.declared.receiver.FeedError.TheVariants as feeding
+use Rattle.esdk_base.specs.Receiver.{Gathers}
 use Rattle.keyring_trait.specs.Materials.{EncMaterialsValue}
 use Rattle.stream_seal.specs.declared.errors.SealError.{SealError}
 use Rattle.stream_seal.specs.declared.errors.SealError.TheVariants as errors
 use Rattle.stream_seal.specs.declared.session.Sealer.{Sealer}
 use Rattle.stream_seal.specs.Feeding.{fed, fed_out, given_so_far}
-use Rattle.stream_seal.specs.Receiving.{FeedsPiece, Finishes}
-use Rattle.stream_seal.specs.Session.{SealingValue, beginning, finished, new_session}
+use Rattle.stream_seal.specs.Receiving.{FeedsSealerPiece, SealerFinishes}
+use Rattle.stream_seal.specs.Session.{SealingValue, beginning, sealing_finished, new_sealing_session}
 use Rattle.stream_seal.specs.Stands.{Stands}
 use Rattle.stream_seal.proofs.Feeding.{begin_fed, feeds, finishes}
-use Rattle.c_session.specs.Sealing.{IsFrontOf, Seals, SealsEnd, SealsPiece, whole_message, unsealed_as}
-use Rattle.c_session.specs.Waiting.{Gathers, GathersFront}
+use Rattle.c_session.specs.Sealing.{IsFrontOf, Seals, SealsEnd, SessionSealsPiece, whole_message, unsealed_as}
+use Rattle.c_session.specs.Waiting.{GathersFront}
 
 -- a message begins: its header waits
 pub seals_first : (m : EncMaterialsValue) (declared : Option ℕ) (size : ℕ) (id : List ℕ)
     (sealer : Sealer) (before header waiting : List ℕ) → 1 ≤ size
-    → Stands sealer (new_session m declared size id) → header ≡ beginning (new_session m declared size id)
+    → Stands sealer (new_sealing_session m declared size id) → header ≡ beginning (new_sealing_session m declared size id)
     → before ≡ [] → waiting ≡ before ++ header
-    → Seals sealer waiting (new_session m declared size id) []
+    → Seals sealer waiting (new_sealing_session m declared size id) []
 seals_first m declared size id sealer before header waiting wide stands is none put =
     let begun = begin_fed m declared size id wide in
     record {
@@ -52,9 +53,9 @@ module _ (E : Type 0) (old : Sealer) (before waiting : List ℕ) (v : SealingVal
     (given : List ℕ) (seals : Seals old before v given) where
   -- a piece was fed
   pub piece_taken : (piece : List ℕ) (new : Sealer)
-      → FeedsPiece {T = Unit {0}} Gathers (λ a b bytes (error : E). GathersFront a b bytes) v piece
+      → FeedsSealerPiece {T = Unit {0}} Gathers (λ a b bytes (error : E). GathersFront a b bytes) v piece
       before waiting new (Ok tt)
-      → SealsPiece {T = Unit {0}} v piece given new waiting (Ok tt)
+      → SessionSealsPiece {T = Unit {0}} v piece given new waiting (Ok tt)
   piece_taken piece new whole =
       let all = feeds v piece seals.fed in
       let on = all.whole whole.none in
@@ -71,9 +72,9 @@ module _ (E : Type 0) (old : Sealer) (before waiting : List ℕ) (v : SealingVal
 
   -- it wasn't, for this reason
   pub piece_not : (piece : List ℕ) (new : Sealer) (error : FeedError SealError E)
-      → FeedsPiece {T = Unit {0}} Gathers (λ a b bytes (error : E). GathersFront a b bytes) v piece
+      → FeedsSealerPiece {T = Unit {0}} Gathers (λ a b bytes (error : E). GathersFront a b bytes) v piece
       before waiting new (Err error)
-      → SealsPiece {T = Unit {0}} v piece given new waiting (Err (unsealed_as error))
+      → SessionSealsPiece {T = Unit {0}} v piece given new waiting (Err (unsealed_as error))
   piece_not piece new (feeding.Machine (errors.Refusal refusal)) short = record {
     why = short.why;
     all = behind given before waiting (given_so_far v) (fed_out v piece) seals.all short.taken
@@ -91,15 +92,15 @@ module _ (E : Type 0) (old : Sealer) (before waiting : List ℕ) (v : SealingVal
       (fed_out until.still.now until.rest) seals.all until.failed)
 
   -- the message was finished
-  pub end_given : Finishes {T = Unit {0}} Gathers (λ a b bytes (error : E). GathersFront a b bytes)
+  pub end_given : SealerFinishes {T = Unit {0}} Gathers (λ a b bytes (error : E). GathersFront a b bytes)
       v before waiting (Ok tt)
       → SealsEnd {T = Unit {0}} v given waiting (Ok tt)
   end_given ends =
-      behind given before waiting (given_so_far v) (finished v).out seals.all ends.1
+      behind given before waiting (given_so_far v) (sealing_finished v).out seals.all ends.1
       ∙ finishes v seals.fed
 
   pub end_not : (error : FeedError SealError E)
-      → Finishes {T = Unit {0}} Gathers (λ a b bytes (error : E). GathersFront a b bytes) v before
+      → SealerFinishes {T = Unit {0}} Gathers (λ a b bytes (error : E). GathersFront a b bytes) v before
       waiting (Err error)
       → SealsEnd {T = Unit {0}} v given waiting (Err (unsealed_as error))
   end_not (feeding.Machine (errors.Refusal refusal)) never = absurd never
@@ -107,8 +108,8 @@ module _ (E : Type 0) (old : Sealer) (before waiting : List ℕ) (v : SealingVal
   end_not (feeding.Machine errors.Stopped) is =
       absurd (let no : true ≡ false = sym is.0 ∙ seals.fed.on in cc)
   end_not (feeding.Receiver error) ends =
-      let whole : given_so_far v ++ ((finished v).out ++ []) ≡ whole_message v =
-      ap (λ (b : List ℕ). given_so_far v ++ b) (append-nil (finished v).out)
+      let whole : given_so_far v ++ ((sealing_finished v).out ++ []) ≡ whole_message v =
+      ap (λ (b : List ℕ). given_so_far v ++ b) (append-nil (sealing_finished v).out)
       ∙ finishes v seals.fed in
       subst (λ (b : List ℕ). IsFrontOf b given waiting) whole
-      (front_behind given before waiting (given_so_far v) (finished v).out [] seals.all ends.2)
+      (front_behind given before waiting (given_so_far v) (sealing_finished v).out [] seals.all ends.2)

@@ -5,7 +5,7 @@ use Rattle.context_codec.specs.Context.{KeyValue}
 use Rattle.header_codec.specs.declared.settings.Settings.{Settings}
 use Rattle.keyring_trait.specs.Manager.{ManagerNow}
 use Rattle.stream_open.specs.Receiving.{FedTo}
-use Rattle.stream_open.specs.Session.{judged_now, new_session}
+use Rattle.stream_open.specs.Session.{judged_now, new_opening_session}
 use Rattle.message_format.specs.Judgement.{content}
 use Rattle.stream_seal.specs.Feeding.{given_so_far}
 use Rattle.stream_seal.specs.Session.{SealingValue}
@@ -14,10 +14,10 @@ use Rattle.c_session.specs.declared.answer.Answer.TheVariants as answers
 use Rattle.c_session.specs.declared.machine.Machine.{Machine}
 use Rattle.c_session.specs.declared.reason.Reason.{Reason}
 use Rattle.c_session.specs.declared.session.Session.{Session}
-use Rattle.c_session.specs.Machine.{EndsMachine, FeedsMachine, FeedsOpening, FeedsSealing}
+use Rattle.c_session.specs.Machine.{EndsMachine, SessionFeedsMachine, SessionFeedsOpening, SessionFeedsSealing}
 use Rattle.c_session.specs.Opening.{OpensEnd}
 use Rattle.c_session.specs.Sealing.{SealsEnd}
-use Rattle.c_session.specs.Session.{BeginsSealing, Ends, Feeds, HandsOutOf, OpensLast, OpensMore, OpensNow, SealsBy, SealsLast, SealsMore, SealsNow, asked, going_answer, request_of, setting_answer, settled, settled_answer, with_its_keys}
+use Rattle.c_session.specs.Session.{BeginsSealing, SessionEnds, SessionFeeds, HandsOutOf, OpensLast, OpensMore, OpensNow, SealsBy, SealsLast, SealsMore, SealsNow, asked, going_answer, session_request, setting_answer, settled_session, settled_answer, with_its_keys}
 use Rattle.c_session.specs.Waiting.{HandsOut}
 
 pub none_of : (o : Option Answer) → ((a : Answer) → o ≡ Some a → ⊥) → o ≡ None
@@ -28,8 +28,8 @@ none_of (Some a) no_answer = absurd (no_answer a refl)
 
 module _ {M : Type 0} (state : M → ManagerNow) (base : Session M) (on : base.ended ≡ false) where
   seals_more : (v : SealingValue) (piece given : List ℕ) (result : Result (Unit {0}) Reason)
-      → FeedsSealing base.machine v piece given base.waiting result
-      → SealsMore (settled base result) v piece given (settled_answer result)
+      → SessionFeedsSealing base.machine v piece given base.waiting result
+      → SealsMore (settled_session base result) v piece given (settled_answer result)
   seals_more v piece given (Ok done) fed = record {
     same = fed.seals.same;
     taken = fed.seals.taken;
@@ -39,8 +39,8 @@ module _ {M : Type 0} (state : M → ManagerNow) (base : Session M) (on : base.e
 
   opens_more : (begun : M × List (List ℕ)) (settings : Settings) (pairs : List KeyValue)
       (taken piece given : List ℕ) (result : Result (Unit {0}) Reason)
-      → FeedsOpening (asked state) begun base.manager base.machine base.waiting settings pairs taken piece given result
-      → OpensMore state (settled base result) begun settings pairs taken piece given (settled_answer result)
+      → SessionFeedsOpening (asked state) begun base.manager base.machine base.waiting settings pairs taken piece given result
+      → OpensMore state (settled_session base result) begun settings pairs taken piece given (settled_answer result)
   opens_more begun settings pairs taken piece given (Ok done) fed =
       record { on = on; opener = fed.opener; machine = fed.machine; opens = fed.opens }
   opens_more begun settings pairs taken piece given (Err reason) fed =
@@ -49,19 +49,19 @@ module _ {M : Type 0} (state : M → ManagerNow) (base : Session M) (on : base.e
 -- the machine of a session was fed
 pub fed_so : {M : Type 0} (state : M → ManagerNow) (old base : Session M) (piece : List ℕ)
     (result : Result (Unit {0}) Reason) → base.ended ≡ old.ended
-    → FeedsMachine (asked state) old.machine base.machine old.manager base.manager old.waiting base.waiting piece result
+    → SessionFeedsMachine (asked state) old.machine base.machine old.manager base.manager old.waiting base.waiting piece result
     → ((a : Answer) → going_answer old ≡ Some a → ⊥)
-    → Feeds state old (settled base result) piece (settled_answer result)
+    → SessionFeeds state old (settled_session base result) piece (settled_answer result)
 fed_so {M} state old base piece result same fed goes = record {
   seals = λ v given now.
       seals_more state base (same ∙ now.on) v piece given result
       (subst
-      (λ (m : Machine). FeedsMachine (asked state) m base.machine old.manager base.manager old.waiting base.waiting piece result)
+      (λ (m : Machine). SessionFeedsMachine (asked state) m base.machine old.manager base.manager old.waiting base.waiting piece result)
       now.machine fed v given now.seals);
   opens = λ begun settings pairs taken given now.
       opens_more state base (same ∙ now.on) begun settings pairs taken piece given result
       (subst
-      (λ (m : Machine). FeedsMachine (asked state) m base.machine old.manager base.manager old.waiting base.waiting piece result)
+      (λ (m : Machine). SessionFeedsMachine (asked state) m base.machine old.manager base.manager old.waiting base.waiting piece result)
       now.machine fed begun settings pairs taken given now.opens);
   refused = λ a is. absurd (goes a is);
 }
@@ -71,14 +71,14 @@ fed_so {M} state old base piece result same fed goes = record {
 module _ {M : Type 0} (state : M → ManagerNow) (base : Session M) (off : base.ended ≡ true) where
   seals_last : (v : SealingValue) (given : List ℕ) (result : Result (Unit {0}) Reason)
       → SealsEnd v given base.waiting result
-      → SealsLast (settled base result) v given (settled_answer result)
+      → SealsLast (settled_session base result) v given (settled_answer result)
   seals_last v given (Ok done) ends = (off, ends)
   seals_last v given (Err reason) ends = (refl, (reason, refl, ends))
 
   opens_last : (begun : M × List (List ℕ)) (settings : Settings) (pairs : List KeyValue)
       (taken given : List ℕ) (result : Result (Unit {0}) Reason)
       → OpensEnd (asked state) begun base.manager base.waiting settings pairs taken given result
-      → OpensLast state (settled base result) begun settings pairs taken given (settled_answer result)
+      → OpensLast state (settled_session base result) begun settings pairs taken given (settled_answer result)
   opens_last begun settings pairs taken given (Ok done) ends = (off, ends)
   opens_last begun settings pairs taken given (Err reason) ends = (refl, (reason, refl, ends))
 
@@ -87,7 +87,7 @@ pub ended_so : {M : Type 0} (state : M → ManagerNow) (old base : Session M)
     (result : Result (Unit {0}) Reason) → base.ended ≡ true → base.manager ≡ old.manager
     → EndsMachine (asked state) old.machine base.machine old.manager old.waiting base.waiting result
     → ((a : Answer) → going_answer old ≡ Some a → ⊥)
-    → Ends state old (settled base result) (settled_answer result)
+    → SessionEnds state old (settled_session base result) (settled_answer result)
 ended_so {M} state old base result off same ends goes = record {
   seals = λ v given now.
       seals_last state base off v given result
@@ -109,7 +109,7 @@ ended_so {M} state old base result off same ends goes = record {
 
 pub begins_from : {M : Type 0} (state : M → ManagerNow) (old new : Session M) (size : ℕ)
     (declared max_keys : Option ℕ) (random : List ℕ) (answer : Answer) → setting_answer old ≡ None
-    → SealsBy state (with_its_keys old) (request_of old declared) new size max_keys random answer
+    → SealsBy state (with_its_keys old) (session_request old declared) new size max_keys random answer
     → BeginsSealing state old new size declared max_keys random answer
 begins_from state old new size declared max_keys random answers.Done none by = (none, by)
 begins_from state old new size declared max_keys random answers.Failed none by = (none, by)
@@ -154,7 +154,7 @@ module _ {M : Type 0} (state : M → ManagerNow) (old : Session M) (waiting : Li
       let same : given ++ old.waiting ≡ (given ++ take count old.waiting) ++ waiting =
       sym (moved given old.waiting waiting (given ++ old.waiting) count left refl) in
       let both = subst
-      (λ (b : List ℕ). (fed : FedTo (asked state) 0 (new_session settings pairs) taken b begun old.manager now.opener)
+      (λ (b : List ℕ). (fed : FedTo (asked state) 0 (new_opening_session settings pairs) taken b begun old.manager now.opener)
       × (b ≡ content (judged_now fed.session)))
       same (now.opens.fed, now.opens.all) in
       record {

@@ -14,7 +14,7 @@ use Rattle.c_session.specs.declared.answer.Answer.TheVariants as answers
 use Rattle.c_session.specs.declared.machine.Machine.{Machine}
 use Rattle.c_session.specs.declared.machine.Machine.TheVariants as machines
 use Rattle.c_session.specs.declared.session.Session.{Session}
-use Rattle.c_session.specs.Session.{Ends, EndsWith, Feeds, OpensLast, OpensMore, OpensRest, SealsLast, SealsMore, SealsRest, going_by}
+use Rattle.c_session.specs.Session.{SessionEnds, EndsWith, SessionFeeds, OpensLast, OpensMore, OpensRest, SealsLast, SealsMore, SealsRest, going_by}
 
 -- ---- the piece wasn't taken
 
@@ -41,7 +41,7 @@ opens_not state new begun settings pairs taken rest given answers.BadFrame undon
 opens_not state new begun settings pairs taken rest given answers.BadRandom undone more = absurd more
 
 pub not_fed : {M : Type 0} (state : M → ManagerNow) (old new : Session M) (rest : List ℕ) (answer : Answer)
-    → (answer ≡ answers.Done → ⊥) → Feeds state old new rest answer → EndsWith state old new rest answer
+    → (answer ≡ answers.Done → ⊥) → SessionFeeds state old new rest answer → EndsWith state old new rest answer
 not_fed state old new rest answer undone fed_so = record {
   seals = λ v given now. seals_not new v rest given answer undone (fed_so.seals v given now);
   opens = λ begun settings pairs taken given now.
@@ -83,7 +83,7 @@ never_done false (machines.Sealing sealer) a is done = cc
 never_done false (machines.Opening opener) a is done = cc
 
 pub ends_with : {M : Type 0} (state : M → ManagerNow) (old middle new : Session M) (rest : List ℕ) (answer : Answer)
-    → Feeds state old middle rest answers.Done → Ends state middle new answer → EndsWith state old new rest answer
+    → SessionFeeds state old middle rest answers.Done → SessionEnds state middle new answer → EndsWith state old new rest answer
 ends_with state old middle new rest answer fed_so ends = record {
   seals = λ v given now.
       let more = fed_so.seals v given now in

@@ -10,6 +10,6 @@ is_callers answers.Failed = false
 is_callers answer = true
 
 -- it is done
-abbrev pub is_done : Answer → Bool
-is_done answers.Done = true
-is_done answer = false
+abbrev pub is_done_answer : Answer → Bool
+is_done_answer answers.Done = true
+is_done_answer answer = false

@@ -5,7 +5,7 @@ use Rattle.header_codec.specs.Header.{HeaderValue}
 use Rattle.keyring_trait.specs.Keyring.{KeyringGoes}
 use Rattle.multi_keyring.specs.Tree.{tree_meaning}
 use Rattle.raw_aes_keyring.specs.Keyring.{raw_meaning}
-use Rattle.esdk_list.specs.List.{BeginsWithHeader, limits_of}
+use Rattle.esdk_list.specs.List.{BeginsWithHeader, list_settings}
 use Rattle.c_session.specs.declared.answer.Answer.TheVariants as answers
 use Rattle.c_session.specs.declared.asking.NoAnswer.{NoAnswer}
 use Rattle.c_session.specs.declared.asking.NoAnswer.TheVariants as errors
@@ -15,13 +15,14 @@ use Rattle.c_session.specs.declared.reason.Reason.{Reason}
 use Rattle.c_session.specs.declared.session.Session.{Session}
 use Rattle.c_session.specs.FileSession.{answer_code}
 use Rattle.c_session.specs.FileTree.{AsksTree, Tree}
-use Rattle.c_session.specs.Front.{ReadsFront}
-use Rattle.c_session.specs.Reason.{code_of}
+use Rattle.c_session.specs.Front.{ReadsHeaderFront}
+use Rattle.c_session.specs.Reason.{code_of_reason}
 use Rattle.c_session.specs.Session.{setting_answer}
 
 -- The leaves of the session's tree were asked about this header, with its pairs as those given. The
 -- session stays as it is, but for what its keyrings count: it is set up still.
-pub record AsksAbout (old new : Session Tree) (h : HeaderValue) (came : Result (List ℕ) Reason)
+pub record SessionAsksAbout (old new : Session Tree) (h : HeaderValue)
+    (came : Result (List ℕ) Reason)
     : Type 0 where
   pub tree : Tree
   pub asks : AsksTree old.manager.0 tree h old.pairs came
@@ -31,7 +32,7 @@ pub record AsksAbout (old new : Session Tree) (h : HeaderValue) (came : Result (
 -- so they were about the header that the bytes begin with
 abbrev pub AsksLeaves : Session Tree → Session Tree → List ℕ → Result (List ℕ) Reason → Type 0
 AsksLeaves old new message came =
-    (h : HeaderValue) × BeginsWithHeader false h message × AsksAbout old new h came
+    (h : HeaderValue) × BeginsWithHeader false h message × SessionAsksAbout old new h came
 
 -- The session is set up, and the leaves were asked; or it isn't, or the bytes begin with no header,
 -- and none was.
@@ -41,7 +42,7 @@ AsksSession old new message (Ok numbers) =
 AsksSession old new message (Err (errors.Call answer)) =
     (setting_answer old ≡ Some answer) × (new ≡ old)
 AsksSession old new message (Err (errors.Reason reason)) = (setting_answer old ≡ None)
-    × ((ReadsFront (limits_of false) message (Err reason) × (new ≡ old))
+    × ((ReadsHeaderFront (list_settings false) message (Err reason) × (new ≡ old))
     ⊎ AsksLeaves old new message (Err reason))
 
 -- So it is of a session whose file was read; any other has ended.
@@ -54,4 +55,4 @@ AsksOpeners (kepts.Read old) new message came =
 -- the code of why there is no answer
 abbrev pub no_answer_code : NoAnswer → ℕ
 no_answer_code (errors.Call answer) = answer_code answer None
-no_answer_code (errors.Reason reason) = code_of reason
+no_answer_code (errors.Reason reason) = code_of_reason reason

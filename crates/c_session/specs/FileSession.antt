@@ -1,5 +1,6 @@
 -- A session over the tree of a keyring file, and what its calls come to.
-use Rattle.std.specs.Prelude.{◌≡◌, ◌⊎◌, ◌≤◌, ◌<◌, ℕ, ◌+◌, ◌*◌, List, [], ◌∷◌, length, Option, Some, None, Ok, Err, ⊤, slice_get}
+use Rattle.std.specs.Prelude.{◌≡◌, ◌⊎◌, ◌≤◌, ◌<◌, ℕ, ◌+◌, ◌*◌, List, [], ◌∷◌, length, Option, Some}
+use Rattle.std.specs.Prelude.{None, Ok, Err, ⊤, slice_get}
 use Rattle.esdk_fields.specs.declared.refusals.FileRefusal.TheVariants.{FileTooLong}
 use Rattle.context_codec.specs.Context.{KeyValue}
 use Rattle.cmm_default.specs.DefaultCmm.{default_now}
@@ -17,8 +18,8 @@ use Rattle.c_session.specs.declared.reason.Reason.{Reason}
 use Rattle.c_session.specs.declared.reason.Reason.TheVariants as reasons
 use Rattle.c_session.specs.declared.session.Session.{Session}
 use Rattle.c_session.specs.FileTree.{Tree}
-use Rattle.c_session.specs.Reason.{code_of}
-use Rattle.c_session.specs.Session.{HandsOutOf, IsFresh, TellsContext}
+use Rattle.c_session.specs.Reason.{code_of_reason}
+use Rattle.c_session.specs.Session.{HandsOutOf, IsFresh, MachineTellsContext}
 
 -- what the manager over a tree is at a moment
 abbrev pub file_state : Tree → ManagerNow
@@ -26,14 +27,14 @@ file_state tree = default_now (tree_meaning raw_meaning tree)
 
 -- The bytes mean this tree, and the session over it is set up; or they are refused, and it has
 -- ended.
-abbrev pub ReadsFile : List ℕ → Kept → Type 0
-ReadsFile bytes (kepts.Read s) = IsFresh s × (length bytes ≤ 1048576)
+abbrev pub SessionReadsFile : List ℕ → Kept → Type 0
+SessionReadsFile bytes (kepts.Read s) = IsFresh s × (length bytes ≤ 1048576)
     × (tree_of (wraps_of raw_meaning) bytes [] ≡ Ok (forest (s.manager.0 ∷ [])))
-ReadsFile bytes (kepts.Refused (reasons.File refusal)) =
+SessionReadsFile bytes (kepts.Refused (reasons.File refusal)) =
     ((1048576 < length bytes) × (refusal ≡ FileTooLong))
     ⊎ (tree_of (wraps_of raw_meaning) bytes [] ≡ Err refusal)
-ReadsFile bytes (kepts.Refused reasons.Memory) = ⊤
-ReadsFile bytes (kepts.Refused reason) = ⊥
+SessionReadsFile bytes (kepts.Refused reasons.Memory) = ⊤
+SessionReadsFile bytes (kepts.Refused reason) = ⊥
 
 -- The call came to this, of a session whose file was read; any other has ended, and stays as it is.
 abbrev pub KeepsRead : Kept → Kept → Answer → (Session Tree → Session Tree → Type 0) → Type 0
@@ -65,7 +66,7 @@ reason_kept (kepts.Refused reason) = Some reason
 reason_kept (kepts.Read s) = s.reason
 
 abbrev pub kept_code : Option Reason → ℕ
-kept_code (Some reason) = code_of reason
+kept_code (Some reason) = code_of_reason reason
 kept_code None = 5000
 
 -- the code of an answer
@@ -91,14 +92,14 @@ first_answer (kepts.Read s) = answers.Done
 -- ---- the whole context
 
 -- this is the whole context, where a message is opened and its header was unlocked
-abbrev pub ShowsContext : Kept → Option (List KeyValue) → Type 0
-ShowsContext (kepts.Refused reason) context = context ≡ None
-ShowsContext (kepts.Read s) context = TellsContext s.machine context
+abbrev pub SessionShowsContext : Kept → Option (List KeyValue) → Type 0
+SessionShowsContext (kepts.Refused reason) context = context ≡ None
+SessionShowsContext (kepts.Read s) context = MachineTellsContext s.machine context
 
 -- It is told of the whole context.
 pub record OfContext (kept : Kept) (tells : Option (List KeyValue) → Type 0) : Type 0 where
   pub context : Option (List KeyValue)
-  pub shows : ShowsContext kept context
+  pub shows : SessionShowsContext kept context
   pub told : tells context
 
 -- the pair of this number, where there is one

@@ -5,24 +5,24 @@ use Rattle.esdk_fields.specs.Place.{Place, start}
 use Rattle.header_codec.specs.declared.settings.Settings.{Settings}
 use Rattle.header_codec.specs.Header.{HeaderValue}
 use Rattle.header_codec.specs.Table.{BeginsWith, header}
-use Rattle.esdk_list.specs.List.{BeginsWithHeader, fault_at_end, limits_of}
+use Rattle.esdk_list.specs.List.{BeginsWithHeader, reading_fault_at_end, list_settings}
 use Rattle.esdk_list.specs.Listing.{list_of}
 use Rattle.c_session.specs.declared.reason.Reason.{Reason}
 use Rattle.c_session.specs.declared.reason.Reason.TheVariants as reasons
 
 -- The bytes begin with this header and its authentication. Else a field of theirs has this fault,
 -- or they end before the header is whole, which is M10; or memory ran out.
-abbrev pub ReadsFront : Settings → List ℕ → Result HeaderValue Reason → Type 0
-ReadsFront settings bytes (Ok h) = (end : Place) × BeginsWith settings bytes h end
-ReadsFront settings bytes (Err (reasons.Fault fault)) =
-    fault_at_end (header settings (start bytes)) ≡ Some fault
-ReadsFront settings bytes (Err reasons.Memory) = ⊤
-ReadsFront settings bytes (Err reason) = ⊥
+abbrev pub ReadsHeaderFront : Settings → List ℕ → Result HeaderValue Reason → Type 0
+ReadsHeaderFront settings bytes (Ok h) = (end : Place) × BeginsWith settings bytes h end
+ReadsHeaderFront settings bytes (Err (reasons.Fault fault)) =
+    reading_fault_at_end (header settings (start bytes)) ≡ Some fault
+ReadsHeaderFront settings bytes (Err reasons.Memory) = ⊤
+ReadsHeaderFront settings bytes (Err reason) = ⊥
 
 -- The text is the listing of the header that the bytes begin with; or there is none, for this
 -- reason.
-abbrev pub ListsFront : Bool → List ℕ → Result (List ℕ) Reason → Type 0
-ListsFront uncommitted bytes (Ok text) =
+abbrev pub ListsHeaderFront : Bool → List ℕ → Result (List ℕ) Reason → Type 0
+ListsHeaderFront uncommitted bytes (Ok text) =
     (h : HeaderValue) × BeginsWithHeader uncommitted h bytes × (text ≡ list_of h)
-ListsFront uncommitted bytes (Err reason) =
-    ReadsFront (limits_of uncommitted) bytes (Err reason)
+ListsHeaderFront uncommitted bytes (Err reason) =
+    ReadsHeaderFront (list_settings uncommitted) bytes (Err reason)

@@ -7,8 +7,8 @@ abbrev pub some_unless : ℕ → ℕ → Option ℕ
 some_unless none number = if number == none then None else Some number
 
 -- the limits of a reader, of which 0 sets none
-abbrev pub limits_of : ℕ → ℕ → Bool → Settings
-limits_of max_keys max_unit uncommitted = record {
+abbrev pub reader_settings : ℕ → ℕ → Bool → Settings
+reader_settings max_keys max_unit uncommitted = record {
   max_keys = some_unless 0 max_keys;
   max_unit = some_unless 0 max_unit;
   uncommitted = uncommitted;

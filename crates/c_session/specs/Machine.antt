@@ -9,37 +9,42 @@ use Rattle.stream_seal.specs.Session.{SealingValue}
 use Rattle.c_session.specs.declared.machine.Machine.{Machine}
 use Rattle.c_session.specs.declared.machine.Machine.TheVariants as machines
 use Rattle.c_session.specs.declared.reason.Reason.{Reason}
-use Rattle.c_session.specs.Opening.{Opens, OpensEnd, OpensPiece}
-use Rattle.c_session.specs.Sealing.{Seals, SealsEnd, SealsPiece}
+use Rattle.c_session.specs.Opening.{SessionOpens, OpensEnd, SessionOpensPiece}
+use Rattle.c_session.specs.Sealing.{Seals, SealsEnd, SessionSealsPiece}
 
 -- ---- a piece
 
 -- The sealer that it was is a sealer still, which took the piece so.
-pub record FeedsSealing {T : Type 0} (new : Machine) (v : SealingValue) (piece given : List ℕ)
+pub record SessionFeedsSealing {T : Type 0} (new : Machine) (v : SealingValue)
+    (piece given : List ℕ)
     (waiting : List ℕ) (result : Result T Reason) : Type 0 where
   pub sealer : Sealer
   pub machine : new ≡ machines.Sealing sealer
-  pub seals : SealsPiece v piece given sealer waiting result
+  pub seals : SessionSealsPiece v piece given sealer waiting result
 
 -- The opener that it was is an opener still, which took the piece so.
-pub record FeedsOpening {M T : Type 0} (state : M → ManagerNow) (begun manager : M) (new : Machine)
+pub record SessionFeedsOpening {M T : Type 0} (state : M → ManagerNow) (begun manager : M)
+    (new : Machine)
     (waiting : List ℕ) (settings : Settings) (pairs : List KeyValue) (taken piece given : List ℕ)
     (result : Result T Reason) : Type 0 where
   pub opener : Opener
   pub machine : new ≡ machines.Opening opener
-  pub opens : OpensPiece state begun manager opener waiting settings pairs taken piece given result
+  pub opens : SessionOpensPiece state begun manager opener waiting settings pairs taken piece given
+      result
 
 -- the machine was fed a piece
-abbrev pub FeedsMachine : {M T : Type 0} → (M → ManagerNow) → Machine → Machine → M → M → List ℕ
+abbrev pub SessionFeedsMachine : {M T : Type 0} → (M → ManagerNow) → Machine → Machine → M → M
+    → List ℕ
     → List ℕ → List ℕ → Result T Reason → Type 0
-FeedsMachine state machines.SetUp after old new before waiting piece result = after ≡ machines.SetUp
-FeedsMachine state (machines.Sealing sealer) after old new before waiting piece result =
+SessionFeedsMachine state machines.SetUp after old new before waiting piece result =
+    after ≡ machines.SetUp
+SessionFeedsMachine state (machines.Sealing sealer) after old new before waiting piece result =
     (v : SealingValue) (given : List ℕ) → Seals sealer before v given
-    → FeedsSealing after v piece given waiting result
-FeedsMachine {M} state (machines.Opening opener) after old new before waiting piece result =
+    → SessionFeedsSealing after v piece given waiting result
+SessionFeedsMachine {M} state (machines.Opening opener) after old new before waiting piece result =
     (begun : M) (settings : Settings) (pairs : List KeyValue) (taken given : List ℕ)
-    → Opens state begun old opener before settings pairs taken given
-    → FeedsOpening state begun new after waiting settings pairs taken piece given result
+    → SessionOpens state begun old opener before settings pairs taken given
+    → SessionFeedsOpening state begun new after waiting settings pairs taken piece given result
 
 -- ---- the end
 
@@ -52,5 +57,5 @@ EndsMachine state (machines.Sealing sealer) after manager before waiting result 
     → SealsEnd v given waiting result
 EndsMachine {M} state (machines.Opening opener) after manager before waiting result =
     (begun : M) (settings : Settings) (pairs : List KeyValue) (taken given : List ℕ)
-    → Opens state begun manager opener before settings pairs taken given
+    → SessionOpens state begun manager opener before settings pairs taken given
     → OpensEnd state begun manager waiting settings pairs taken given result

@@ -68,12 +68,12 @@ file_number files.FileTooLong = 10
 file_number (files.NotRaw place) = 11
 
 -- the exit status of the program, and the number
-abbrev pub code_of : Reason → ℕ
-code_of (reasons.File refusal) = 3000 + file_number refusal
-code_of (reasons.Fault fault) = 1000 + fault_number fault
-code_of (reasons.Refusal refusal) = 6000 + refusal_number refusal
-code_of reasons.Keyring = 4005
-code_of reasons.Memory = 5000
+abbrev pub code_of_reason : Reason → ℕ
+code_of_reason (reasons.File refusal) = 3000 + file_number refusal
+code_of_reason (reasons.Fault fault) = 1000 + fault_number fault
+code_of_reason (reasons.Refusal refusal) = 6000 + refusal_number refusal
+code_of_reason reasons.Keyring = 4005
+code_of_reason reasons.Memory = 5000
 
 -- the number and the name
 abbrev pub name_of : Reason → List ℕ
@@ -84,9 +84,9 @@ name_of reasons.Keyring = outside_name outsides.KeyringFault
 name_of reasons.Memory = codes "Memory"
 
 -- the line, as the program prints it behind `esdk: `
-abbrev pub line_of : Reason → List ℕ
-line_of (reasons.File refusal) = file_line refusal
-line_of (reasons.Fault fault) = fault_line fault
-line_of (reasons.Refusal refusal) = refusal_line refusal
-line_of reasons.Keyring = outside_line outsides.KeyringFault
-line_of reasons.Memory = codes "Memory"
+abbrev pub reason_line : Reason → List ℕ
+reason_line (reasons.File refusal) = file_line refusal
+reason_line (reasons.Fault fault) = fault_line fault
+reason_line (reasons.Refusal refusal) = refusal_line refusal
+reason_line reasons.Keyring = outside_line outsides.KeyringFault
+reason_line reasons.Memory = codes "Memory"

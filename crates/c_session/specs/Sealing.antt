@@ -6,7 +6,7 @@ use Rattle.esdk_base.specs.declared.receiver.FeedError.TheVariants as feeds
 use Rattle.stream_seal.specs.declared.errors.SealError.{SealError}
 use Rattle.stream_seal.specs.declared.errors.SealError.TheVariants as errors
 use Rattle.stream_seal.specs.declared.session.Sealer.{Sealer}
-use Rattle.stream_seal.specs.Feeding.{IsFed, fed, feed_refusal, given_so_far}
+use Rattle.stream_seal.specs.Feeding.{SealerIsFed, fed, feed_refusal, given_so_far}
 use Rattle.stream_seal.specs.Laws.{IsSameMessage}
 use Rattle.stream_seal.specs.Session.{SealingValue}
 use Rattle.stream_seal.specs.Stands.{Stands}
@@ -20,7 +20,7 @@ use Rattle.c_session.specs.declared.reason.Reason.TheVariants as reasons
 pub record Seals (sealer : Sealer) (waiting : List ℕ) (v : SealingValue) (given : List ℕ) : Type 0
   where
     pub stands : Stands sealer v
-    pub fed : IsFed v
+    pub fed : SealerIsFed v
     pub all : given ++ waiting ≡ given_so_far v
 
 -- All of the piece was taken into the same message, which goes on.
@@ -43,14 +43,14 @@ pub record IsFrontOf (bytes given waiting : List ℕ) : Type 0 where
   pub front : (given ++ waiting) ++ rest ≡ bytes
 
 -- what taking a piece comes to
-abbrev pub SealsPiece : {T : Type 0} → SealingValue → List ℕ → List ℕ → Sealer → List ℕ
+abbrev pub SessionSealsPiece : {T : Type 0} → SealingValue → List ℕ → List ℕ → Sealer → List ℕ
     → Result T Reason → Type 0
-SealsPiece v piece given sealer waiting (Ok done) = TakesText v piece given sealer waiting
-SealsPiece v piece given sealer waiting (Err (reasons.Refusal refusal)) =
+SessionSealsPiece v piece given sealer waiting (Ok done) = TakesText v piece given sealer waiting
+SessionSealsPiece v piece given sealer waiting (Err (reasons.Refusal refusal)) =
     RefusesText v piece given refusal waiting
-SealsPiece v piece given sealer waiting (Err reasons.Memory) =
+SessionSealsPiece v piece given sealer waiting (Err reasons.Memory) =
     IsFrontOf (given_so_far (fed v piece)) given waiting
-SealsPiece v piece given sealer waiting (Err reason) = ⊥
+SessionSealsPiece v piece given sealer waiting (Err reason) = ⊥
 
 -- the message of the text that was taken
 abbrev pub whole_message : SealingValue → List ℕ

@@ -1,5 +1,6 @@
 -- A session: one message after another, over one materials manager.
-use Rattle.std.specs.Prelude.{◌≡◌, ◌≢◌, ◌⊎◌, ℕ, ◌+◌, ◌*◌, List, [], ◌++◌, length, take, drop, Bool, true, false, Option, Some, None, Result, Ok, Err}
+use Rattle.std.specs.Prelude.{◌≡◌, ◌≢◌, ◌⊎◌, ℕ, ◌+◌, ◌*◌, List, [], ◌++◌, length, take, drop, Bool}
+use Rattle.std.specs.Prelude.{true, false, Option, Some, None, Result, Ok, Err}
 use Rattle.context_codec.specs.Context.{KeyValue}
 use Rattle.std.specs.BTreeMap.{insert_entry}
 use Rattle.std.specs.Cmp.Lexicographic.{slice_cmp}
@@ -25,9 +26,9 @@ use Rattle.c_session.specs.declared.machine.Machine.{Machine}
 use Rattle.c_session.specs.declared.machine.Machine.TheVariants as machines
 use Rattle.c_session.specs.declared.reason.Reason.{Reason}
 use Rattle.c_session.specs.declared.session.Session.{Session}
-use Rattle.c_session.specs.Beginning.{BeginsNot, BeginsWith}
-use Rattle.c_session.specs.Opening.{Opens, OpensEnd, OpensPiece, Releases}
-use Rattle.c_session.specs.Sealing.{Seals, SealsEnd, SealsPiece, whole_message}
+use Rattle.c_session.specs.Beginning.{SessionBeginsNot, SessionBeginsWith}
+use Rattle.c_session.specs.Opening.{SessionOpens, OpensEnd, SessionOpensPiece, SessionReleases}
+use Rattle.c_session.specs.Sealing.{Seals, SealsEnd, SessionSealsPiece, whole_message}
 use Rattle.c_session.specs.Waiting.{HandsOut}
 
 -- what the manager with its required keys is at a moment
@@ -64,7 +65,7 @@ pub record OpensNow {M : Type 0} (state : M → ManagerNow) (s : Session M)
   pub on : s.ended ≡ false
   pub opener : Opener
   pub machine : s.machine ≡ machines.Opening opener
-  pub opens : Opens (asked state) begun s.manager opener s.waiting settings pairs taken given
+  pub opens : SessionOpens (asked state) begun s.manager opener s.waiting settings pairs taken given
 
 -- ---- calls that don't fit
 
@@ -95,9 +96,9 @@ abbrev pub ended_for : {M : Type 0} → Session M → Reason → Session M
 ended_for s reason = record s { ended = true; reason = Some reason }
 
 -- the session behind what came so
-abbrev pub settled : {M T : Type 0} → Session M → Result T Reason → Session M
-settled s (Ok done) = s
-settled s (Err reason) = ended_for s reason
+abbrev pub settled_session : {M T : Type 0} → Session M → Result T Reason → Session M
+settled_session s (Ok done) = s
+settled_session s (Err reason) = ended_for s reason
 
 abbrev pub settled_answer : {T : Type 0} → Result T Reason → Answer
 settled_answer (Ok done) = answers.Done
@@ -134,8 +135,8 @@ abbrev pub with_its_keys : {M : Type 0} → Session M → M × List (List ℕ)
 with_its_keys s = (s.manager.0, s.required)
 
 -- what it asks of its manager: materials for all its pairs
-abbrev pub request_of : {M : Type 0} → Session M → Option ℕ → EncRequestValue
-request_of s declared = record { context = s.pairs; required = []; declared = declared }
+abbrev pub session_request : {M : Type 0} → Session M → Option ℕ → EncRequestValue
+session_request s declared = record { context = s.pairs; required = []; declared = declared }
 
 -- A message is sealed from now on, with materials that the manager gave for these pairs; it
 -- required these keys of them.
@@ -145,7 +146,8 @@ pub record SealsAnew {M : Type 0} (state : M → ManagerNow) (begun : M × List 
   pub on : new.ended ≡ false
   pub sealer : Sealer
   pub machine : new.machine ≡ machines.Sealing sealer
-  pub begins : BeginsWith (said_last (asked state begun) (asked state new.manager)) request size
+  pub begins : SessionBeginsWith (said_last (asked state begun) (asked state new.manager)) request
+      size
       max_keys random sealer new.waiting
 
 -- so it is, or none begins, for a reason
@@ -154,7 +156,7 @@ abbrev pub SealsBy : {M : Type 0} → (M → ManagerNow) → M × List (List ℕ
 SealsBy state begun request new size max_keys random answers.Done =
     SealsAnew state begun request new size max_keys random
 SealsBy state begun request new size max_keys random answers.Failed =
-    Stopped new (BeginsNot (said_last (asked state begun) (asked state new.manager)) request
+    Stopped new (SessionBeginsNot (said_last (asked state begun) (asked state new.manager)) request
     max_keys random)
 SealsBy state begun request new size max_keys random answer = ⊥
 
@@ -162,17 +164,17 @@ SealsBy state begun request new size max_keys random answer = ⊥
 abbrev pub SealsFrom : {M : Type 0} → (M → ManagerNow) → Session M → Session M → ℕ → Option ℕ
     → Option ℕ → List ℕ → Answer → Type 0
 SealsFrom state old new size declared max_keys random answer =
-    SealsBy state old.manager (request_of old declared) new size max_keys random answer
+    SealsBy state old.manager (session_request old declared) new size max_keys random answer
 
 abbrev pub BeginsSealing : {M : Type 0} → (M → ManagerNow) → Session M → Session M → ℕ → Option ℕ
     → Option ℕ → List ℕ → Answer → Type 0
 BeginsSealing state old new size declared max_keys random answers.Done =
     (setting_answer old ≡ None)
-    × SealsBy state (with_its_keys old) (request_of old declared) new size max_keys random
+    × SealsBy state (with_its_keys old) (session_request old declared) new size max_keys random
     answers.Done
 BeginsSealing state old new size declared max_keys random answers.Failed =
     (setting_answer old ≡ None)
-    × SealsBy state (with_its_keys old) (request_of old declared) new size max_keys random
+    × SealsBy state (with_its_keys old) (session_request old declared) new size max_keys random
     answers.Failed
 BeginsSealing state old new size declared max_keys random answers.BadFrame =
     (setting_answer old ≡ None) × (size ≡ 0) × (new ≡ old)
@@ -193,16 +195,18 @@ BeginsOpening state old new settings answer = (setting_answer old ≡ Some answe
 -- ---- a piece
 
 -- All of the piece was taken into the same message, which goes on.
-pub record SealsOn {M : Type 0} (new : Session M) (v : SealingValue) (piece given : List ℕ) : Type 0
+pub record SessionSealsOn {M : Type 0} (new : Session M) (v : SealingValue)
+    (piece given : List ℕ) : Type 0
   where
     pub same : IsSameMessage v (fed v piece)
     pub taken : (fed v piece).taken ≡ v.taken ++ piece
     pub seals : SealsNow new (fed v piece) given
 
 abbrev pub SealsMore : {M : Type 0} → Session M → SealingValue → List ℕ → List ℕ → Answer → Type 0
-SealsMore new v piece given answers.Done = SealsOn new v piece given
+SealsMore new v piece given answers.Done = SessionSealsOn new v piece given
 SealsMore new v piece given answers.Failed = Stopped new (λ reason.
-    (sealer : Sealer) × SealsPiece {T = Unit {0}} v piece given sealer new.waiting (Err reason))
+    (sealer : Sealer) × SessionSealsPiece {T = Unit {0}} v piece given sealer new.waiting
+    (Err reason))
 SealsMore new v piece given answer = ⊥
 
 abbrev pub OpensMore : {M : Type 0} → (M → ManagerNow) → Session M → M × List (List ℕ) → Settings
@@ -210,13 +214,14 @@ abbrev pub OpensMore : {M : Type 0} → (M → ManagerNow) → Session M → M �
 OpensMore state new begun settings pairs taken piece given answers.Done =
     OpensNow state new begun settings pairs (taken ++ piece) given
 OpensMore state new begun settings pairs taken piece given answers.Failed = Stopped new (λ reason.
-    (opener : Opener) × OpensPiece {T = Unit {0}} (asked state) begun new.manager opener new.waiting
+    (opener : Opener) × SessionOpensPiece {T = Unit {0}} (asked state) begun new.manager opener
+    new.waiting
     settings pairs taken piece given (Err reason))
 OpensMore state new begun settings pairs taken piece given answer = ⊥
 
 -- A piece was fed: to a session that seals, to one that opens, or to one that does neither, which
 -- stays as it is.
-pub record Feeds {M : Type 0} (state : M → ManagerNow) (old new : Session M) (piece : List ℕ)
+pub record SessionFeeds {M : Type 0} (state : M → ManagerNow) (old new : Session M) (piece : List ℕ)
     (answer : Answer) : Type 0 where
   pub seals : (v : SealingValue) (given : List ℕ) → SealsNow old v given
       → SealsMore new v piece given answer
@@ -240,13 +245,14 @@ abbrev pub OpensLast : {M : Type 0} → (M → ManagerNow) → Session M → M �
     → List KeyValue → List ℕ → List ℕ → Answer → Type 0
 OpensLast state new begun settings pairs taken given answers.Done =
     (new.ended ≡ true)
-    × Releases (asked state) begun new.manager new.waiting settings pairs taken given Whole
+    × SessionReleases (asked state) begun new.manager new.waiting settings pairs taken given Whole
 OpensLast state new begun settings pairs taken given answers.Failed = Stopped new (λ reason.
     OpensEnd {T = Unit {0}} (asked state) begun new.manager new.waiting settings pairs taken given
     (Err reason))
 OpensLast state new begun settings pairs taken given answer = ⊥
 
-pub record Ends {M : Type 0} (state : M → ManagerNow) (old new : Session M) (answer : Answer) : Type 0
+pub record SessionEnds {M : Type 0} (state : M → ManagerNow) (old new : Session M)
+    (answer : Answer) : Type 0
   where
     pub seals : (v : SealingValue) (given : List ℕ) → SealsNow old v given
         → SealsLast new v given answer
@@ -263,7 +269,8 @@ abbrev pub SealsRest : {M : Type 0} → Session M → SealingValue → List ℕ 
 SealsRest new v rest given answers.Done = (new.ended ≡ true)
     × (given ++ new.waiting ≡ message_of v.materials v.size v.id (v.taken ++ rest))
 SealsRest new v rest given answers.Failed = Stopped new (λ reason.
-    ((sealer : Sealer) × SealsPiece {T = Unit {0}} v rest given sealer new.waiting (Err reason))
+    ((sealer : Sealer) × SessionSealsPiece {T = Unit {0}} v rest given sealer new.waiting
+    (Err reason))
     ⊎ SealsEnd {T = Unit {0}} (fed v rest) given new.waiting (Err reason))
 SealsRest new v rest given answer = ⊥
 
@@ -272,10 +279,11 @@ SealsRest new v rest given answer = ⊥
 abbrev pub OpensRest : {M : Type 0} → (M → ManagerNow) → Session M → M × List (List ℕ) → Settings
     → List KeyValue → List ℕ → List ℕ → List ℕ → Answer → Type 0
 OpensRest state new begun settings pairs taken rest given answers.Done = (new.ended ≡ true)
-    × Releases (asked state) begun new.manager new.waiting settings pairs (taken ++ rest) given
+    × SessionReleases (asked state) begun new.manager new.waiting settings pairs (taken ++ rest)
+    given
     Whole
 OpensRest state new begun settings pairs taken rest given answers.Failed = Stopped new (λ reason.
-    ((opener : Opener) × OpensPiece {T = Unit {0}} (asked state) begun new.manager opener
+    ((opener : Opener) × SessionOpensPiece {T = Unit {0}} (asked state) begun new.manager opener
     new.waiting settings pairs taken rest given (Err reason))
     ⊎ OpensEnd {T = Unit {0}} (asked state) begun new.manager new.waiting settings pairs
     (taken ++ rest) given (Err reason))
@@ -310,8 +318,8 @@ pub record HandsOutOf {M : Type 0} (state : M → ManagerNow) (old : Session M) 
 
 -- This is the whole context of the message that the opener opens, once its header was unlocked. A
 -- machine that opens none has none.
-abbrev pub TellsContext : Machine → Option (List KeyValue) → Type 0
-TellsContext machines.SetUp context = context ≡ None
-TellsContext (machines.Sealing sealer) context = context ≡ None
-TellsContext (machines.Opening opener) context =
+abbrev pub MachineTellsContext : Machine → Option (List KeyValue) → Type 0
+MachineTellsContext machines.SetUp context = context ≡ None
+MachineTellsContext (machines.Sealing sealer) context = context ≡ None
+MachineTellsContext (machines.Opening opener) context =
     (v : OpeningValue) → Stands opener v → context ≡ whole_context v

@@ -4,13 +4,13 @@ use Rattle.std.specs.Prelude.{◌≡◌, ◌≤◌, ◌⊎◌, ℕ, ◌+◌, ◌
 use Rattle.esdk_fields.specs.declared.contents.Content.{Content}
 use Rattle.esdk_fields.specs.declared.contents.Content.TheVariants.{Single, Framed}
 use Rattle.header_codec.specs.Header.{HeaderValue, frame_length}
-use Rattle.esdk_list.specs.List.{BeginsWithHeader, limits_of}
+use Rattle.esdk_list.specs.List.{BeginsWithHeader, list_settings}
 use Rattle.extract_core.specs.Extract.{body_begin, range_of}
 use Rattle.extract_core.specs.Extracted.{ByteRange, first_slot, slot_count, slot_width}
 use Rattle.c_session.specs.declared.no_range.NoRange.{NoRange}
 use Rattle.c_session.specs.declared.no_range.NoRange.TheVariants as errors
 use Rattle.c_session.specs.declared.span.Span.{Span}
-use Rattle.c_session.specs.Front.{ReadsFront}
+use Rattle.c_session.specs.Front.{ReadsHeaderFront}
 
 -- how many bytes of the body hold the range at the most: the slots that the range names, of which
 -- the last may be a final frame, with 8 bytes more; of a single block all that there are
@@ -41,7 +41,7 @@ SpansFront uncommitted message at count (Ok span) = (h : HeaderValue)
     × BeginsWithHeader uncommitted h message
     × IsSpan (body_begin h) h.content (range_of at count) span
 SpansFront uncommitted message at count (Err (errors.Reason reason)) =
-    ReadsFront (limits_of uncommitted) message (Err reason)
+    ReadsHeaderFront (list_settings uncommitted) message (Err reason)
 SpansFront uncommitted message at count (Err errors.TooFar) = (count ≡ 0)
     ⊎ ((h : HeaderValue) × BeginsWithHeader uncommitted h message
     × IsTooFar (body_begin h) h.content (range_of at count))

@@ -2,7 +2,7 @@
 use Rattle.std.specs.Prelude.{◌≡◌, ◌⊎◌, ℕ, List, ◌++◌, length, take, drop, min, Option, Some, None}
 use Rattle.std.specs.Option.{option_map}
 use Rattle.c_session.specs.declared.reason.Reason.{Reason}
-use Rattle.c_session.specs.Reason.{line_of, name_of}
+use Rattle.c_session.specs.Reason.{reason_line, name_of}
 
 -- As much of the text as there is room for stands at the room's front, and the rest of the room is
 -- as it was. The number is that of all of its bytes.
@@ -23,5 +23,5 @@ ShowsSome (Some text) room count after = (n : ℕ) × (count ≡ Some n) × Show
 
 -- The line of the reason is shown, where there is one; or its name alone, where memory ran out.
 abbrev pub ShowsLine : Option Reason → List ℕ → ℕ → List ℕ → Type 0
-ShowsLine reason room count after = ShowsIf (option_map line_of reason) room count after
+ShowsLine reason room count after = ShowsIf (option_map reason_line reason) room count after
     ⊎ ShowsIf (option_map name_of reason) room count after

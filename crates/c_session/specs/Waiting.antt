@@ -1,10 +1,6 @@
 -- Bytes that wait until there is room for them.
 use Rattle.std.specs.Prelude.{◌≡◌, ℕ, List, ◌++◌, length, take, drop, min}
 
--- these are put behind those that wait
-abbrev pub Gathers : List ℕ → List ℕ → List ℕ → Type 0
-Gathers old new bytes = new ≡ old ++ bytes
-
 -- A front of these is.
 pub record GathersFront (old new bytes : List ℕ) : Type 0 where
   pub front : List ℕ

@@ -1,14 +1,7 @@
 -- They keep the laws of receivers, which an `impl` can cite from specs/ alone.
-use Rattle.std.proofs.Common.{◌∙◌, ℕ, List, [], ◌++◌, sym, ap, append_assoc, append-nil}
-use Rattle.c_session.specs.Waiting.{Gathers, GathersFront}
-
-pub gathers_none : (r : List ℕ) → Gathers r r []
-gathers_none r = sym (append-nil r)
-
-pub gathers_more : (r s t first second : List ℕ) → Gathers r s first → Gathers s t second
-    → Gathers r t (first ++ second)
-gathers_more r s t first second one two =
-    two ∙ ap (λ (b : List ℕ). b ++ second) one ∙ append_assoc r first second
+use Rattle.std.proofs.Common.{◌∙◌, ℕ, List, ◌++◌, sym, ap, append_assoc}
+use Rattle.esdk_base.specs.Receiver.{Gathers}
+use Rattle.c_session.specs.Waiting.{GathersFront}
 
 pub front_behind : (r s t first second : List ℕ) → Gathers r s first → GathersFront s t second
     → GathersFront r t (first ++ second)

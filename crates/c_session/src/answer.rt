@@ -1,7 +1,7 @@
 //! What a call answers.
 
 ghost use Rattle.std.specs.Prelude.{◌≡◌};
-ghost use Rattle.c_session.specs.Answer.{is_callers, is_done};
+ghost use Rattle.c_session.specs.Answer.{is_callers, is_done_answer};
 
 /// What a call of a session answers.
 #[derive(Clone, Copy)]
@@ -32,7 +32,7 @@ impl Answer {
 
     /// Whether it says that it is done.
     pub fn is_done(self) -> bool
-        ensures { result ≡ is_done self }
+        ensures { result ≡ is_done_answer self }
     {
         matches!(self, Answer::Done)
     }

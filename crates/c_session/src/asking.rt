@@ -1,7 +1,7 @@
 //! What a session is asked about a message. A question begins no message, and ends no session.
 
 ghost use Rattle.std.specs.Prelude.{◌≡◌, ◌≤◌};
-ghost use Rattle.c_session.specs.Asking.{AsksAbout, AsksSession, no_answer_code};
+ghost use Rattle.c_session.specs.Asking.{SessionAsksAbout, AsksSession, no_answer_code};
 
 use crate::answer::Answer;
 use crate::file_session::code_for;
@@ -71,7 +71,7 @@ fn ask_leaves(
     session: TreeSession,
     header: &Header,
 ) -> (Result<Openers, Reason>, TreeSession)
-    ensures { AsksAbout session result.1 header.now result.0 }
+    ensures { SessionAsksAbout session result.1 header.now result.0 }
 {
     let mut tree = session.manager.into_inner().into_ring();
     let asked = tree.openers(alloc, header, &session.pairs);

@@ -3,7 +3,7 @@
 ghost use Rattle.std.specs.Prelude.{◌≡◌, ◌≤◌, ◌+◌, ◌*◌, [], length, IfErr, IfOk};
 ghost use Rattle.keyring_trait.specs.Manager.{Went};
 ghost use Rattle.keyring_trait.specs.Saying.{said_last};
-ghost use Rattle.c_session.specs.Beginning.{BeginsNot, BeginsWith, manager_reason};
+ghost use Rattle.c_session.specs.Beginning.{SessionBeginsNot, SessionBeginsWith, manager_reason};
 
 use crate::reason::Reason;
 use crate::sealing::begin_sealer;
@@ -26,9 +26,9 @@ pub(crate) fn begin_message<M: Manager>(
     requires some { 1 ≤ frame_length }
     requires drawn { length random.now ≡ 64 + 12 * (M.state manager.old).meaning.wraps }
     requires none { waiting.old ≡ [] }
-    ensures begins { IfOk result (λ sealer. BeginsWith (said_last (M.state manager.old)
+    ensures begins { IfOk result (λ sealer. SessionBeginsWith (said_last (M.state manager.old)
         (M.state manager.new)) request.now frame_length max_keys random.now sealer waiting.new) }
-    ensures cause { IfErr result (BeginsNot (said_last (M.state manager.old)
+    ensures cause { IfErr result (SessionBeginsNot (said_last (M.state manager.old)
         (M.state manager.new)) request.now max_keys random.now) }
     ensures went { Went (M.state manager.old) (M.state manager.new) }
 {

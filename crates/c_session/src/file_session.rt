@@ -6,10 +6,14 @@ ghost use Rattle.context_codec.specs.Fitting.{IsSized};
 ghost use Rattle.c_session.specs.Asking.{AsksOpeners};
 ghost use Rattle.c_session.specs.Reason.{name_of};
 ghost use Rattle.c_session.specs.Telling.{ShowsIf, ShowsLine, ShowsSome};
-ghost use Rattle.c_session.specs.Session.{BeginsOpening, BeginsSealing, Ends, EndsWith, Feeds, PairsAs, RequiresAs};
+ghost use Rattle.c_session.specs.Session.{BeginsOpening, BeginsSealing, SessionEnds, EndsWith};
+ghost use Rattle.c_session.specs.Session.{SessionFeeds, PairsAs, RequiresAs};
 ghost use Rattle.c_session.specs.Handed.{handed_of};
 ghost use Rattle.c_session.specs.Ranging.{AsksRange};
-ghost use Rattle.c_session.specs.FileSession.{Again, KeepsRead, OfContext, ReadsFile, ShowsContext, TakesKept, answer_code, drawn_by, file_state, first_answer, kept_code, pair_at, reason_kept, waiting_in};
+ghost use Rattle.c_session.specs.FileSession.{Again, KeepsRead, OfContext, SessionReadsFile};
+ghost use Rattle.c_session.specs.FileSession.{SessionShowsContext, TakesKept, answer_code};
+ghost use Rattle.c_session.specs.FileSession.{drawn_by, file_state, first_answer, kept_code};
+ghost use Rattle.c_session.specs.FileSession.{pair_at, reason_kept, waiting_in};
 
 use crate::answer::Answer;
 use crate::asking::{NoAnswer, TreeSession, ask_session};
@@ -51,7 +55,7 @@ pub struct FileSession {
 impl FileSession {
     /// A session that is set up, over the tree of the keyring file in these bytes.
     pub fn new(alloc: Global, file: &[u8]) -> FileSession
-        ensures { ReadsFile file.now result.kept }
+        ensures { SessionReadsFile file.now result.kept }
     {
         FileSession {
             kept: read(alloc, file),
@@ -222,7 +226,7 @@ impl FileSession {
     /// Takes a piece, of a text or of a message. What it gives waits.
     pub fn feed(&mut self, alloc: Global, piece: &[u8]) -> Answer
         ensures { KeepsRead self.old.kept self.new.kept result
-            (λ old new. Feeds file_state old new piece.now result) }
+            (λ old new. SessionFeeds file_state old new piece.now result) }
     {
         match &mut self.kept {
             Kept::Refused(_) => Answer::Ended,
@@ -233,7 +237,7 @@ impl FileSession {
     /// Says that no byte follows. What that gives waits.
     pub fn finish(&mut self) -> Answer
         ensures { KeepsRead self.old.kept self.new.kept result
-            (λ old new. Ends file_state old new result) }
+            (λ old new. SessionEnds file_state old new result) }
     {
         match &mut self.kept {
             Kept::Refused(_) => Answer::Ended,
@@ -359,7 +363,7 @@ impl FileSession {
 
     /// The whole context of the message that is opened, once its header was unlocked.
     pub fn context(&self) -> Option<&Context>
-        ensures { ShowsContext self.now.kept (option_copied result) }
+        ensures { SessionShowsContext self.now.kept (option_copied result) }
     {
         match &self.kept {
             Kept::Refused(_) => None,
@@ -419,7 +423,7 @@ fn reason_code(reason: Option<&Reason>) -> u32
 
 /// The session over the tree of the keyring file in these bytes.
 fn read(alloc: Global, file: &[u8]) -> Kept
-    ensures { ReadsFile file.now result }
+    ensures { SessionReadsFile file.now result }
 {
     if file.len() > MOST_FILE {
         return Kept::Refused(Reason::File(FileRefusal::FileTooLong));

@@ -1,6 +1,6 @@
 //! The front of a message: its header, which is read without a key.
 
-ghost use Rattle.c_session.specs.Front.{ListsFront, ReadsFront};
+ghost use Rattle.c_session.specs.Front.{ListsHeaderFront, ReadsHeaderFront};
 
 use crate::limits::settings;
 use crate::reason::Reason;
@@ -16,7 +16,7 @@ use std::alloc::Global;
 /// - `Fault`: the header has this fault; M10 `Truncated`, where the bytes end before it is whole.
 /// - `Memory`: memory ran out.
 pub fn front_text(alloc: Global, message: &[u8], uncommitted: bool) -> Result<Blob, Reason>
-    ensures { ListsFront uncommitted message.now result }
+    ensures { ListsHeaderFront uncommitted message.now result }
 {
     match front_of(alloc, settings(0, 0, uncommitted), message) {
         Ok(header) => match list_text(alloc, &header) {
@@ -32,7 +32,7 @@ pub fn front_text(alloc: Global, message: &[u8], uncommitted: bool) -> Result<Bl
 /// - `Fault`: the header has this fault; M10 `Truncated`, where the bytes end before it is whole.
 /// - `Memory`: memory ran out.
 pub(crate) fn front_of(alloc: Global, settings: Settings, bytes: &[u8]) -> Result<Header, Reason>
-    ensures { ReadsFront settings bytes.now result }
+    ensures { ReadsHeaderFront settings bytes.now result }
 {
     match header_in(alloc, settings, bytes) {
         Ok(found) => Ok(found.header),

@@ -1,13 +1,13 @@
 //! Limits, which a caller gives as numbers.
 
 ghost use Rattle.std.specs.Prelude.{◌≡◌};
-ghost use Rattle.c_session.specs.Limits.{limits_of, some_unless};
+ghost use Rattle.c_session.specs.Limits.{reader_settings, some_unless};
 
 use header_codec::Settings;
 
 /// The limits of a reader, of which 0 sets none.
 pub fn settings(max_keys: u16, max_unit: u64, uncommitted: bool) -> Settings
-    ensures { result ≡ limits_of max_keys max_unit uncommitted }
+    ensures { result ≡ reader_settings max_keys max_unit uncommitted }
 {
     Settings {
         max_keys: keys_limit(max_keys),

@@ -2,7 +2,7 @@
 
 ghost use Rattle.std.specs.Prelude.{◌≡◌};
 ghost use Rattle.keyring_trait.specs.Manager.{Went};
-ghost use Rattle.c_session.specs.Machine.{EndsMachine, FeedsMachine};
+ghost use Rattle.c_session.specs.Machine.{EndsMachine, SessionFeedsMachine};
 
 use crate::opening::OpenMachine;
 use crate::reason::Reason;
@@ -31,7 +31,8 @@ pub(crate) fn feed_machine<M: Manager>(
     waiting: &mut Waiting,
     piece: &[u8],
 ) -> Result<(), Reason>
-    ensures { FeedsMachine M.state machine.old machine.new manager.old manager.new waiting.old
+    ensures { SessionFeedsMachine M.state machine.old machine.new manager.old manager.new
+        waiting.old
         waiting.new piece.now result }
 {
     match machine {

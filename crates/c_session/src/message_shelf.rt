@@ -2,7 +2,8 @@
 
 ghost use Rattle.std.specs.Prelude.{◌≡◌, ◌≤◌, ◌∷◌, [], ◌++◌, None, IfSome};
 ghost use Rattle.esdk_fields.specs.Counts.{Rose};
-ghost use Rattle.c_session.specs.Handed.{AgreesSoFar, Gives, Handed, end_note, handed_of, notes_of};
+ghost use Rattle.c_session.specs.Handed.{AgreesSoFar, FillsRoom, HandedPart, end_note, handed_of};
+ghost use Rattle.c_session.specs.Handed.{notes_of};
 
 use crate::handed_bytes::{HandedBytes, left_at};
 use esdk_base::{Failed, Readers, Shelf};
@@ -41,7 +42,12 @@ impl<'a> Model for MessageShelf<'a> {
 impl<'a> MessageShelf<'a> {
     /// The shelf of these bytes, which wasn't read yet.
     pub(crate) fn new(bytes: HandedBytes<'a>) -> MessageShelf<'a>
-        ensures { result ≡ record { given = 0; faults = 0; calls = notes_of (handed_of bytes.entry) } }
+        ensures { result ≡ record {
+          given = 0;
+          faults = 0;
+          calls = notes_of
+              (handed_of bytes.entry);
+        } }
     {
         MessageShelf {
             bytes,
@@ -53,7 +59,7 @@ impl<'a> MessageShelf<'a> {
 
     /// Called for its clause alone: each read gave what the message has that was handed over.
     pub(crate) fn agreed(&self)
-        ensures { (h : Handed) × AgreesSoFar h self.now.calls }
+        ensures { (h : HandedPart) × AgreesSoFar h self.now.calls }
     {
         let _ = &self.bytes;
     }
@@ -133,7 +139,7 @@ fn note_end(calls: &mut SeenCalls, bytes: HandedBytes<'_>)
 /// Copies the front of what is left into the front of `out`, as much as there is room for, and
 /// answers how many bytes; none, where something is left and there is no room.
 fn give(left: &[u8], out: &mut [u8]) -> Option<usize>
-    ensures { IfSome result (Gives left.now out.new) }
+    ensures { IfSome result (FillsRoom left.now out.new) }
 {
     let count = left.len().min(out.len());
     if count == 0 && !left.is_empty() {

@@ -5,10 +5,10 @@ ghost use Rattle.std.specs.Option.{option_copied};
 ghost use Rattle.context_codec.specs.Context.{KeyValue};
 ghost use Rattle.header_codec.specs.declared.settings.Settings.{Settings};
 ghost use Rattle.keyring_trait.specs.Manager.{Went};
-ghost use Rattle.stream_open.specs.Receiving.{HasSession};
+ghost use Rattle.stream_open.specs.Receiving.{OpenerHasSession};
 ghost use Rattle.stream_open.specs.Session.{OpeningValue, whole_context};
 ghost use Rattle.stream_open.specs.Stands.{Stands};
-ghost use Rattle.c_session.specs.Opening.{Opens, OpensEnd, OpensPiece, unopened_as};
+ghost use Rattle.c_session.specs.Opening.{SessionOpens, OpensEnd, SessionOpensPiece, unopened_as};
 
 use crate::reason::Reason;
 use crate::waiting::Waiting;
@@ -28,13 +28,13 @@ pub(crate) struct OpenMachine {
 
 impl Model for OpenMachine {
     ghost use Rattle.stream_open.specs.declared.session.Opener.{Opener};
-    ghost use Rattle.stream_open.specs.Receiving.{HasSession};
+    ghost use Rattle.stream_open.specs.Receiving.{OpenerHasSession};
 
     ghost Value = { Opener };
 
     ghost view = { λ m. m.opener };
 
-    ghost invariant = { λ m. HasSession m.opener };
+    ghost invariant = { λ m. OpenerHasSession m.opener };
 }
 
 impl OpenMachine {
@@ -45,7 +45,7 @@ impl OpenMachine {
         settings: Settings,
         given: Context,
     ) -> OpenMachine
-        ensures { Opens M.state manager.now manager.now result [] settings given [] [] }
+        ensures { SessionOpens M.state manager.now manager.now result [] settings given [] [] }
     {
         OpenMachine {
             opener: begin_opener(alloc, manager, settings, given),
@@ -62,8 +62,8 @@ impl OpenMachine {
     ) -> Result<(), Reason>
         ensures opens { (begun : M) (settings : Settings) (pairs : List KeyValue)
             (taken given : List ℕ)
-            → Opens M.state begun manager.old self.old waiting.old settings pairs taken given
-            → OpensPiece M.state begun manager.new self.new waiting.new settings pairs taken
+            → SessionOpens M.state begun manager.old self.old waiting.old settings pairs taken given
+            → SessionOpensPiece M.state begun manager.new self.new waiting.new settings pairs taken
             piece.now given result }
         ensures went { Went (M.state manager.old) (M.state manager.new) }
     {
@@ -74,7 +74,7 @@ impl OpenMachine {
     pub(crate) fn end<M: Manager>(&mut self, manager: &M, waiting: &Waiting) -> Result<(), Reason>
         ensures { (begun : M) (settings : Settings) (pairs : List KeyValue)
             (taken given : List ℕ)
-            → Opens M.state begun manager.now self.old waiting.now settings pairs taken given
+            → SessionOpens M.state begun manager.now self.old waiting.now settings pairs taken given
             → OpensEnd M.state begun manager.now waiting.now settings pairs taken given result }
     {
         end_opener(manager, &mut self.opener, waiting)
@@ -95,8 +95,8 @@ fn begin_opener<M: Manager>(
     settings: Settings,
     given: Context,
 ) -> Opener
-    ensures opens { Opens M.state manager.now manager.now result [] settings given [] [] }
-    ensures session { HasSession result }
+    ensures opens { SessionOpens M.state manager.now manager.now result [] settings given [] [] }
+    ensures session { OpenerHasSession result }
 {
     // What is known of a manager that isn't asked yet, `wraps` says.
     let _wraps = manager.wraps();
@@ -111,13 +111,14 @@ fn feed_opener<M: Manager>(
     waiting: &mut Waiting,
     piece: &[u8],
 ) -> Result<(), Reason>
-    requires session { HasSession opener.old }
+    requires session { OpenerHasSession opener.old }
     ensures opens { (begun : M) (settings : Settings) (pairs : List KeyValue)
         (taken given : List ℕ)
-        → Opens M.state begun manager.old opener.old waiting.old settings pairs taken given
-        → OpensPiece M.state begun manager.new opener.new waiting.new settings pairs taken piece.now
+        → SessionOpens M.state begun manager.old opener.old waiting.old settings pairs taken given
+        → SessionOpensPiece M.state begun manager.new opener.new waiting.new settings pairs taken
+        piece.now
         given result }
-    ensures session { HasSession opener.new }
+    ensures session { OpenerHasSession opener.new }
     ensures went { Went (M.state manager.old) (M.state manager.new) }
 {
     match opener.feed(alloc, manager, 0, piece, waiting) {
@@ -128,12 +129,12 @@ fn feed_opener<M: Manager>(
 
 /// Says whether the message is whole.
 fn end_opener<M: Manager>(manager: &M, opener: &mut Opener, waiting: &Waiting) -> Result<(), Reason>
-    requires session { HasSession opener.old }
+    requires session { OpenerHasSession opener.old }
     ensures opens { (begun : M) (settings : Settings) (pairs : List KeyValue)
         (taken given : List ℕ)
-        → Opens M.state begun manager.now opener.old waiting.now settings pairs taken given
+        → SessionOpens M.state begun manager.now opener.old waiting.now settings pairs taken given
         → OpensEnd M.state begun manager.now waiting.now settings pairs taken given result }
-    ensures session { HasSession opener.new }
+    ensures session { OpenerHasSession opener.new }
 {
     match opener.finish() {
         Ok(()) => Ok(()),

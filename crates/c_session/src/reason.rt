@@ -2,7 +2,8 @@
 
 ghost use Rattle.std.specs.Prelude.{◌≡◌, ◌≤◌, IfOk};
 ghost use Rattle.c_session.specs.declared.reason.Reason.TheVariants.{Memory};
-ghost use Rattle.c_session.specs.Reason.{code_of, fault_number, file_number, line_of, name_of, refusal_number};
+ghost use Rattle.c_session.specs.Reason.{code_of_reason, fault_number, file_number, reason_line};
+ghost use Rattle.c_session.specs.Reason.{name_of, refusal_number};
 
 use esdk_fields::{Blob, Fault, FileRefusal, Outside, Refusal};
 use esdk_report::{fault_text, file_text, outside_text, refusal_text};
@@ -26,7 +27,7 @@ pub enum Reason {
 impl Reason {
     /// Its code: a thousand times the program's exit status, and the number of the line.
     pub fn code(&self) -> u32
-        ensures code { result ≡ code_of self.now }
+        ensures code { result ≡ code_of_reason self.now }
         ensures few { result ≤ 9999 }
     {
         match self {
@@ -53,7 +54,7 @@ impl Reason {
 
     /// Its line, as the program prints it behind `esdk: `. Fails only where memory runs out.
     pub fn line(&self, alloc: Global) -> Result<Blob, AllocError>
-        ensures { IfOk result (λ line. line ≡ line_of self.now) }
+        ensures { IfOk result (λ line. line ≡ reason_line self.now) }
     {
         match self {
             Reason::File(refusal) => file_text(alloc, refusal),
@@ -67,7 +68,7 @@ impl Reason {
 
 /// The line of want of memory.
 fn only_name(alloc: Global) -> Result<Blob, AllocError>
-    ensures { IfOk result (λ line. line ≡ line_of Memory) }
+    ensures { IfOk result (λ line. line ≡ reason_line Memory) }
 {
     let mut line = Blob::new(alloc);
     line.push_all(b"Memory")?;

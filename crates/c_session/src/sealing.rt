@@ -1,9 +1,10 @@
 //! A text that is sealed piece by piece.
 
 ghost use Rattle.std.specs.Prelude.{◌≡◌, ◌≤◌, ℕ, [], List, None, IfErr, IfOk, OnOk};
-ghost use Rattle.stream_seal.specs.Session.{SealingValue, new_session};
+ghost use Rattle.stream_seal.specs.Session.{SealingValue, new_sealing_session};
 ghost use Rattle.stream_seal.specs.Start.{start_refusal};
-ghost use Rattle.c_session.specs.Sealing.{SealsNot, Seals, SealsEnd, SealsPiece, unsealed_as};
+ghost use Rattle.c_session.specs.Sealing.{SealsNot, Seals, SealsEnd, SessionSealsPiece};
+ghost use Rattle.c_session.specs.Sealing.{unsealed_as};
 
 use crate::reason::Reason;
 use crate::waiting::Waiting;
@@ -25,7 +26,7 @@ pub(crate) fn begin_sealer(
     requires some { 1 ≤ frame_length }
     requires none { waiting.old ≡ [] }
     ensures seals { IfOk result (λ sealer. Seals sealer waiting.new
-        (new_session materials.now declared frame_length message_id.now) []) }
+        (new_sealing_session materials.now declared frame_length message_id.now) []) }
     ensures taken { OnOk result (start_refusal materials.now max_keys message_id.now ≡ None) }
     ensures cause { IfErr result (SealsNot (start_refusal materials.now max_keys
         message_id.now)) }
@@ -53,7 +54,7 @@ pub(crate) fn feed_sealer(
     piece: &[u8],
 ) -> Result<(), Reason>
     ensures { (v : SealingValue) (given : List ℕ) → Seals sealer.old waiting.old v given
-        → SealsPiece v piece.now given sealer.new waiting.new result }
+        → SessionSealsPiece v piece.now given sealer.new waiting.new result }
 {
     match sealer.feed(piece, waiting) {
         Ok(()) => Ok(()),

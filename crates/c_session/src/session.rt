@@ -3,7 +3,11 @@
 ghost use Rattle.std.specs.Prelude.{◌≡◌, ◌≤◌, ◌+◌, ◌*◌, [], length, false, None};
 ghost use Rattle.std.specs.Option.{option_copied};
 ghost use Rattle.c_session.specs.declared.answer.Answer.TheVariants.{Failed};
-ghost use Rattle.c_session.specs.Session.{BeginsOpening, BeginsSealing, Ends, EndsWith, Feeds, HandsOutOf, IsFresh, OpensNow, PairsAs, RequiresAs, SealsFrom, TellsContext, ended_for, going_answer, settled, setting_answer, settled_answer};
+ghost use Rattle.c_session.specs.Session.{BeginsOpening, BeginsSealing, SessionEnds, EndsWith};
+ghost use Rattle.c_session.specs.Session.{SessionFeeds, HandsOutOf, IsFresh, OpensNow, PairsAs};
+ghost use Rattle.c_session.specs.Session.{RequiresAs, SealsFrom, MachineTellsContext, ended_for};
+ghost use Rattle.c_session.specs.Session.{going_answer, settled_session, setting_answer};
+ghost use Rattle.c_session.specs.Session.{settled_answer};
 
 use crate::answer::Answer;
 use crate::beginning::begin_message;
@@ -101,7 +105,7 @@ impl<M: Manager> Session<M> {
 
     /// What a call comes to that went so: an error ends the session.
     fn settle(&mut self, came: Result<(), Reason>) -> Answer
-        ensures session { self.new ≡ settled self.old came }
+        ensures session { self.new ≡ settled_session self.old came }
         ensures answer { result ≡ settled_answer came }
     {
         match came {
@@ -250,7 +254,7 @@ impl<M: Manager> Session<M> {
 
     /// Takes a piece, of a text or of a message. What it gives waits.
     pub fn feed(&mut self, alloc: Global, piece: &[u8]) -> Answer
-        ensures { Feeds M.state self.old self.new piece.now result }
+        ensures { SessionFeeds M.state self.old self.new piece.now result }
     {
         if let Some(answer) = self.going_answer() {
             return answer;
@@ -267,7 +271,7 @@ impl<M: Manager> Session<M> {
 
     /// Says that no byte follows. What that gives waits.
     pub fn finish(&mut self) -> Answer
-        ensures { Ends M.state self.old self.new result }
+        ensures { SessionEnds M.state self.old self.new result }
     {
         if let Some(answer) = self.going_answer() {
             return answer;
@@ -311,7 +315,7 @@ impl<M: Manager> Session<M> {
 
     /// The whole context of the message that is opened, once its header was unlocked.
     pub fn context(&self) -> Option<&Context>
-        ensures { TellsContext self.now.machine (option_copied result) }
+        ensures { MachineTellsContext self.now.machine (option_copied result) }
     {
         match &self.machine {
             Machine::SetUp => None,

@@ -1,8 +1,10 @@
 //! Bytes that wait until there is room for them.
 
 ghost use Rattle.std.specs.Prelude.{◌≡◌, ◌++◌, [], length, OnErr, OnOk};
-ghost use Rattle.c_session.specs.Waiting.{Gathers, GathersFront, HandsOut};
-ghost use Rattle.c_session.specs.WaitingLaws.{front_behind, gathers_more, gathers_none};
+ghost use Rattle.esdk_base.specs.Receiver.{Gathers};
+ghost use Rattle.esdk_base.specs.ReceiverLaws.{gathers_none, gathers_more};
+ghost use Rattle.c_session.specs.Waiting.{GathersFront, HandsOut};
+ghost use Rattle.c_session.specs.WaitingLaws.{front_behind};
 
 use esdk_base::Receiver;
 use std::alloc::{AllocError, Global};

@@ -16,12 +16,12 @@ use Rattle.esdk_fields.specs.declared.faults.Fault.TheVariants.{Truncated}
 use Rattle.stream_open.specs.declared.errors.OpenError.TheVariants as opens
 use Rattle.stream_open.specs.declared.session.Opener.{Opener}
 use Rattle.stream_open.specs.Feeding.{GoesOn}
-use Rattle.stream_open.specs.Receiving.{FeedsPiece, HasSession}
-use Rattle.stream_open.specs.Session.{OpeningValue, answer_kept, end_of, finish_answer, finished, judged_now, new_session, whole_context, whole_in}
+use Rattle.stream_open.specs.Receiving.{FeedsOpenerPiece, OpenerHasSession}
+use Rattle.stream_open.specs.Session.{OpeningValue, answer_kept, end_of_verdict, opening_finish_answer, opening_finished, judged_now, new_opening_session, whole_context, whole_in}
 use Rattle.stream_open.specs.Stands.{Stands}
 use Rattle.stream_open.proofs.AnyCut.{kept_none}
 use Rattle.stream_open.proofs.Feeding.{ends_so, opened_goes}
-use Rattle.callers.specs.Opening.{OpensWhole}
+use Rattle.callers.specs.Opening.{OpensWholeBytes}
 
 -- These bytes were taken under these limits, no fault stands in them, and the content that they release was put.
 pub record Opening (limits : Settings) (bytes : List ℕ) (before now : Option (List ℕ)) (opener : Opener) : Type 0 where
@@ -32,12 +32,12 @@ pub record Opening (limits : Settings) (bytes : List ℕ) (before now : Option (
   pub taken : session.taken ≡ bytes
   pub gained : Appends before now (content (judged_now session))
 
-pub has_session : (limits : Settings) (bytes : List ℕ) (before now : Option (List ℕ)) (opener : Opener) → Opening limits bytes before now opener → HasSession opener
+pub has_session : (limits : Settings) (bytes : List ℕ) (before now : Option (List ℕ)) (opener : Opener) → Opening limits bytes before now opener → OpenerHasSession opener
 has_session limits bytes before now opener t = record { session = t.session; stands = t.stands }
 
-pub opening_first : (limits : Settings) (given : List KeyValue) (before : Option (List ℕ)) (opener : Opener) → Stands opener (new_session limits given) → Opening limits [] before before opener
+pub opening_first : (limits : Settings) (given : List KeyValue) (before : Option (List ℕ)) (opener : Opener) → Stands opener (new_opening_session limits given) → Opening limits [] before before opener
 opening_first limits given before opener stands = record {
-  session = new_session limits given;
+  session = new_opening_session limits given;
   stands = stands;
   goes = opened_goes limits given;
   settings = refl;
@@ -48,7 +48,7 @@ opening_first limits given before opener stands = record {
 -- a piece was fed
 pub opening_more : {M R : Type 0} (now_at : M → ManagerNow) (state : R → SinkState) (now : ℕ) (limits : Settings) (bytes : List ℕ) (before : Option (List ℕ))
     (first last : M) (mid after : R) (old new : Opener) (piece : List ℕ) → (t : Opening limits bytes before (state mid).written old)
-    → ((v : OpeningValue) → Stands old v → FeedsPiece {T = Unit {0}} now_at (λ a b bytes. SinkTakes (state a) (state b) bytes)
+    → ((v : OpeningValue) → Stands old v → FeedsOpenerPiece {T = Unit {0}} now_at (λ a b bytes. SinkTakes (state a) (state b) bytes)
     (λ a b bytes (error : Failed). SinkFails (state a) (state b) bytes) now v piece first last mid after new (Ok tt)) → Opening limits (bytes ++ piece) before (state after).written new
 opening_more now_at state now limits bytes before first last mid after old new piece t feeds =
     let whole = feeds t.session t.stands in
@@ -65,7 +65,7 @@ opening_more now_at state now limits bytes before first last mid after old new p
 
 -- ---- the end
 
-whole_at : (verdict : Verdict) → end_of verdict ≡ Ok tt → verdict ≡ Whole
+whole_at : (verdict : Verdict) → end_of_verdict verdict ≡ Ok tt → verdict ≡ Whole
 whole_at Going e = absurd (let no : Err (opens.Fault Truncated) ≡ Ok tt = e in cc)
 whole_at Whole e = refl
 whole_at (Faulty fault) e = absurd (let no : Err (opens.Fault fault) ≡ Ok tt = e in cc)
@@ -82,13 +82,13 @@ context_in true (Unlocks whole only key) context e = (only, key, ap (λ (c : Lis
 context_in true (Refuses fault) context e = absurd (let no : None ≡ Some context = e in cc)
 context_in false answer context e = absurd (let no : None ≡ Some context = e in cc)
 
-has_context : (v : OpeningValue) (context : List KeyValue) → whole_context (finished v) ≡ Some context
+has_context : (v : OpeningValue) (context : List KeyValue) → whole_context (opening_finished v) ≡ Some context
     → (only : List KeyValue) × (key : List ℕ) × (answer_kept v.answer ≡ Unlocks context only key)
-unfolding finished whole_context
+unfolding opening_finished whole_context
 has_context v context is = context_in (judged_now v).unlocked (answer_kept v.answer) context is
 
 pub opens_whole : (settings : Settings) (bytes : List ℕ) (before now : Option (List ℕ)) (opener : Opener) (context : List KeyValue) → (t : Opening settings bytes before now opener)
-    → finish_answer t.session ≡ Ok tt → whole_context (finished t.session) ≡ Some context → OpensWhole settings bytes context before now
+    → opening_finish_answer t.session ≡ Ok tt → whole_context (opening_finished t.session) ≡ Some context → OpensWholeBytes settings bytes context before now
 opens_whole settings bytes before now opener context t done is =
     let (only, key, answer) = has_context t.session context is in
     let same : judged_now t.session ≡ judged bytes settings (Unlocks context only key) = λ i. judged (t.taken i) (t.settings i) (answer i) in

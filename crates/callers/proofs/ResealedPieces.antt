@@ -21,26 +21,25 @@ use Rattle.keyring_trait.specs.Unlocking.{Unlocking, Unlocks}
 use Rattle.body_format.specs.declared.verdicts.Verdict.{Verdict}
 use Rattle.body_format.specs.declared.verdicts.Verdict.TheVariants.{Going, Whole, Faulty}
 use Rattle.message_format.specs.Judgement.{Judged, content, judged}
-use Rattle.stream_open.specs.Session.{OpeningValue, answer_kept, asked_header, finished, is_faulty, judged_now, whole_context}
-use Rattle.stream_seal.specs.Start.{message_of, most_text}
-use Rattle.esdk_encrypt.specs.Encrypt.{drawn_id}
+use Rattle.stream_open.specs.Session.{OpeningValue, answer_kept, asked_header, opening_finished, is_faulty, judged_now, whole_context}
+use Rattle.stream_seal.specs.Start.{message_of, most_text, drawn_id}
 use Rattle.esdk_decrypt.specs.Decrypt.{AnswersTo, HasContext, answering_of, fault_at_end}
 use Rattle.esdk_decrypt.proofs.Concluding.{has_context, some_context}
 use Rattle.reseal_core.specs.declared.errors.InputError.TheVariants as errors
 use Rattle.reseal_core.specs.declared.errors.ResealError.{ResealError}
 use Rattle.reseal_core.specs.declared.errors.ResealError.TheVariants as reseals
 use Rattle.reseal_core.specs.declared.resealer.Resealer.{Resealer}
-use Rattle.reseal_core.specs.Front.{Gains, front_of}
-use Rattle.reseal_core.specs.Reseal.{Resealing, WritesFront, resealing_from}
-use Rattle.reseal_core.specs.Session.{ResealingValue, gone_on, new_session}
-use Rattle.reseal_core.specs.Stands.{Finishes, Stands, Steps}
+use Rattle.reseal_core.specs.Front.{GainsBeyond, front_of}
+use Rattle.reseal_core.specs.Reseal.{Resealing, ResealWritesFront, resealing_from}
+use Rattle.reseal_core.specs.Session.{ResealingValue, gone_on, new_resealing_session}
+use Rattle.reseal_core.specs.Stands.{ResealerFinishes, Stands, ResealerSteps}
 use Rattle.reseal_core.specs.Underway.{AreMade, ConcludesSo, IsMade, Reached}
 use Rattle.reseal_core.proofs.Reaching.{answer, answer_kept_is, answers, has_gained, has_room, same, writes_reached, written}
 use Rattle.reseal_core.proofs.Stepping.{gains_all}
 use Rattle.reseal_core.proofs.RandomBytes.{one_random}
 use Rattle.reseal_core.proofs.Sessions.{concludes_err}
 use Rattle.reseal_core.proofs.StepEnds.{step_ends, unstopped}
-use Rattle.callers.specs.Resealing.{ResealerFails, HasFault, IsWholeAnd, OpensAnd, Reseals}
+use Rattle.callers.specs.Resealing.{ResealerFails, ResealedBytesHaveFault, IsWholeAnd, OpensAnd, ResealsBytes}
 use Rattle.callers.proofs.Resealed.{came_so, ends_so, first_so, left, told}
 
 -- ---- a step's part of a piece, of which so many bytes were taken
@@ -98,14 +97,14 @@ module _ (xs : List (Bor (List ℕ))) (i : ℕ) (more : i < length xs) where
 
 -- ---- the whole context
 
-context_same : (v : OpeningValue) → whole_context (finished v) ≡ whole_context v
-unfolding finished whole_context
+context_same : (v : OpeningValue) → whole_context (opening_finished v) ≡ whole_context v
+unfolding opening_finished whole_context
 context_same v = refl
 
 module _ {A B : Type 0} (opened : A → ManagerNow) (sealed : B → ManagerNow) (now : ℕ) (settings : Settings) (given : List KeyValue) (size : ℕ) (random bytes : List ℕ) (old new : A) (before after : B)
-    (output put : SinkState) (resealer : Resealer) (r : Reached opened sealed now (new_session settings given size random) bytes old new before after output put resealer) where
+    (output put : SinkState) (resealer : Resealer) (r : Reached opened sealed now (new_resealing_session settings given size random) bytes old new before after output put resealer) where
   abbrev v : ResealingValue
-  v = gone_on (new_session settings given size random) r.fed.session r.materials
+  v = gone_on (new_resealing_session settings given size random) r.fed.session r.materials
 
   abbrev w : OpeningValue
   w = r.fed.session
@@ -117,13 +116,13 @@ module _ {A B : Type 0} (opened : A → ManagerNow) (sealed : B → ManagerNow) 
 
   -- a step failed, and these bytes follow behind those that it was given
   pub step_fails : (rest more all : List ℕ) (last : A) (end : B) (now_put : SinkState) (next : Resealer) (unwritten : Type 0) → 1 ≤ length rest → length rest ≤ 65536 → (asked_header w rest ≡ None → last ≡ new) → (unwritten → now_put ≡ put)
-      → (error : ResealError) → Steps (opened new) (opened last) (said_last (sealed after) (sealed end)) now v rest put now_put (end ≡ after) unwritten (Err error) next → (bytes ++ rest) ++ more ≡ all
+      → (error : ResealError) → ResealerSteps (opened new) (opened last) (said_last (sealed after) (sealed end)) now v rest put now_put (end ≡ after) unwritten (Err error) next → (bytes ++ rest) ++ more ≡ all
       → ResealerFails (resealing_from (opened old) (opened last) (sealed before) (sealed end) now settings given size) random all output now_put error
   step_fails rest more all last end now_put next unwritten some few stays kept error s all_is =
       subst (λ (b : List ℕ). ResealerFails (resealing_from (opened old) (opened last) (sealed before) (sealed end) now settings given size) random b output now_put error) all_is
       (ends_so (resealing_from (opened old) (opened last) (sealed before) (sealed end) now settings given size) random (bytes ++ rest) more output now_put error
       (λ stop. unstopped opened sealed now settings given size random bytes old new before after output put resealer r rest last end now_put next unwritten some stays
-      (subst (λ (e : ResealError). Steps (opened new) (opened last) (said_last (sealed after) (sealed end)) now v rest put now_put (end ≡ after) unwritten (Err e) next) stop s))
+      (subst (λ (e : ResealError). ResealerSteps (opened new) (opened last) (said_last (sealed after) (sealed end)) now v rest put now_put (end ≡ after) unwritten (Err e) next) stop s))
       (λ named called. step_ends opened sealed now settings given size random bytes old new before after output put resealer r rest last end now_put next unwritten some stays kept (told ((bytes ++ rest) ++ more)) (left (bytes ++ rest) more)
       (came_so (bytes ++ rest) more) refl few error named s called))
 
@@ -133,7 +132,7 @@ module _ {A B : Type 0} (opened : A → ManagerNow) (sealed : B → ManagerNow) 
 
   -- ---- the bytes have a fault at their end
 
-  fault_here : (fault : Fault) → fault_at_end (judged_now w).verdict ≡ Some fault → HasFault asked random bytes output put fault
+  fault_here : (fault : Fault) → fault_at_end (judged_now w).verdict ≡ Some fault → ResealedBytesHaveFault asked random bytes output put fault
   fault_here fault at = record {
     answer = answer opened sealed now settings given size random bytes old new before after output put resealer r;
     answered = answers opened sealed now settings given size random bytes old new before after output put resealer r;
@@ -141,7 +140,7 @@ module _ {A B : Type 0} (opened : A → ManagerNow) (sealed : B → ManagerNow) 
     written = written opened sealed now settings given size random bytes old new before after output put resealer r;
   }
 
-  wanting_by : (verdict : Verdict) → (judged_now w).verdict ≡ verdict → whole_context w ≡ None → is_faulty verdict ≡ false → HasFault asked random bytes output put Truncated
+  wanting_by : (verdict : Verdict) → (judged_now w).verdict ≡ verdict → whole_context w ≡ None → is_faulty verdict ≡ false → ResealedBytesHaveFault asked random bytes output put Truncated
   wanting_by Going is none sound = fault_here Truncated (ap fault_at_end is)
   wanting_by Whole is none sound = absurd (some_context w is (context_same w ∙ none))
   wanting_by (Faulty fault) is none sound = absurd (let no : true ≡ false = sound in cc)
@@ -153,11 +152,11 @@ module _ {A B : Type 0} (opened : A → ManagerNow) (sealed : B → ManagerNow) 
   -- ---- memory runs out
 
   memory_by : (m : Option EncMaterialsValue) → r.materials ≡ m → ResealerFails asked random bytes output put reseals.Memory
-  memory_by None is = inl (gains_all output put [] (subst (λ (x : Option EncMaterialsValue). Gains output put [] (front_of x size random (content (judged_now w)))) is r.gained))
+  memory_by None is = inl (gains_all output put [] (subst (λ (x : Option EncMaterialsValue). GainsBeyond output put [] (front_of x size random (content (judged_now w)))) is r.gained))
   memory_by (Some m) is =
       let first = writes_reached opened sealed now settings given size random bytes old new before after output put resealer r [] new after refl (λ none. refl) (told ((bytes ++ []) ++ [])) (left (bytes ++ []) [])
       (came_so (bytes ++ []) []) (omega arith) m is in
-      inr (subst (λ (b : List ℕ). OpensAnd asked b (λ whole only text. WritesFront asked random whole only text output put)) (append-nil (bytes ++ []) ∙ append-nil bytes)
+      inr (subst (λ (b : List ℕ). OpensAnd asked b (λ whole only text. ResealWritesFront asked random whole only text output put)) (append-nil (bytes ++ []) ∙ append-nil bytes)
       (first_so asked random (bytes ++ []) [] output put first))
 
   pub lacks_memory : ResealerFails asked random bytes output put reseals.Memory
@@ -193,10 +192,10 @@ module _ {A B : Type 0} (opened : A → ManagerNow) (sealed : B → ManagerNow) 
 
   module _ (last : SinkState) (unwritten : Type 0) where
     -- the new message was finished
-    pub finishes_so : (context : List KeyValue) → whole_context w ≡ Some context → Finishes v put last unwritten (Ok tt) → Reseals asked random bytes output last context
+    pub finishes_so : (context : List KeyValue) → whole_context w ≡ Some context → ResealerFinishes v put last unwritten (Ok tt) → ResealsBytes asked random bytes output last context
     finishes_so context is (whole, (m, e, finishes)) =
         let gained = has_gained opened sealed now settings given size random bytes old new before after output put resealer r m e in
-        subst (λ (c : List KeyValue). Reseals asked random bytes output last c)
+        subst (λ (c : List KeyValue). ResealsBytes asked random bytes output last c)
         (same_context (made m e).whole (made m e).only (made m e).key context w.answer (made m e).answer_is (has_context w context (context_same w ∙ is)))
         (whole_and m e (λ text message. (length text ≤ most_text size) × Appends output.written last.written message) whole (
           has_room opened sealed now settings given size random bytes old new before after output put resealer r m e,
@@ -215,10 +214,10 @@ module _ {A B : Type 0} (opened : A → ManagerNow) (sealed : B → ManagerNow) 
         )
 
     -- or it wasn't
-    pub finishes_not : (error : ResealError) → (unwritten → last ≡ put) → Finishes v put last unwritten (Err error) → ResealerFails asked random bytes output last error
+    pub finishes_not : (error : ResealError) → (unwritten → last ≡ put) → ResealerFinishes v put last unwritten (Err error) → ResealerFails asked random bytes output last error
     finishes_not (reseals.Fault fault) kept ends =
         let so = concludes_err v put last unwritten (reseals.Fault fault) (errors.Fault fault) r.fed.feeds.goes kept ends refl in
-        subst (λ (s : SinkState). HasFault asked random bytes output s fault) (sym so.1) (fault_here fault so.0)
+        subst (λ (s : SinkState). ResealedBytesHaveFault asked random bytes output s fault) (sym so.1) (fault_here fault so.0)
     finishes_not reseals.SinkFault kept ends =
         sink_fails (concludes_err v put last unwritten reseals.SinkFault (errors.Outside outsides.SinkFault) r.fed.feeds.goes kept ends refl)
     finishes_not (reseals.Refusal refusal) kept (whole, (m, is, none)) = absurd none

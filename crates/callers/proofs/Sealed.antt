@@ -7,9 +7,9 @@ use Rattle.esdk_base.specs.Receiver.{SinkFails, SinkTakes}
 use Rattle.esdk_base.specs.Streams.{SinkState}
 use Rattle.keyring_trait.specs.Materials.{EncMaterialsValue}
 use Rattle.stream_seal.specs.declared.session.Sealer.{Sealer}
-use Rattle.stream_seal.specs.Feeding.{IsFed, IsFeeding, fed, fed_out, given_so_far}
-use Rattle.stream_seal.specs.Receiving.{FeedsPiece, Finishes}
-use Rattle.stream_seal.specs.Session.{SealingValue, beginning, finished, new_session}
+use Rattle.stream_seal.specs.Feeding.{SealerIsFed, IsFeeding, fed, fed_out, given_so_far}
+use Rattle.stream_seal.specs.Receiving.{FeedsSealerPiece, SealerFinishes}
+use Rattle.stream_seal.specs.Session.{SealingValue, beginning, sealing_finished, new_sealing_session}
 use Rattle.stream_seal.specs.Stands.{Stands}
 use Rattle.stream_seal.specs.Start.{message_of}
 use Rattle.stream_seal.proofs.Feeding.{begin_fed, feeds, finishes, is_feeding}
@@ -18,19 +18,19 @@ use Rattle.stream_seal.proofs.Feeding.{begin_fed, feeds, finishes, is_feeding}
 pub record Sealing (m : EncMaterialsValue) (frame : ℕ) (message_id text : List ℕ) (before now : Option (List ℕ)) (sealer : Sealer) : Type 0 where
   pub session : SealingValue
   pub stands : Stands sealer session
-  pub is_fed : IsFed session
+  pub is_fed : SealerIsFed session
   pub materials : session.materials ≡ m
   pub size : session.size ≡ frame
   pub id : session.id ≡ message_id
   pub taken : session.taken ≡ text
   pub gained : Appends before now (given_so_far session)
 
-pub sealing_first : (m : EncMaterialsValue) (size : ℕ) (id : List ℕ) (before now : Option (List ℕ)) (sealer : Sealer) (header : List ℕ) → 1 ≤ size → Stands sealer (new_session m None size id)
-    → header ≡ beginning (new_session m None size id) → Appends before now header → Sealing m size id [] before now sealer
+pub sealing_first : (m : EncMaterialsValue) (size : ℕ) (id : List ℕ) (before now : Option (List ℕ)) (sealer : Sealer) (header : List ℕ) → 1 ≤ size → Stands sealer (new_sealing_session m None size id)
+    → header ≡ beginning (new_sealing_session m None size id) → Appends before now header → Sealing m size id [] before now sealer
 sealing_first m size id before now sealer header wide stands is put =
     let begun = begin_fed m None size id wide in
     record {
-      session = new_session m None size id;
+      session = new_sealing_session m None size id;
       stands = stands;
       is_fed = begun.is_fed;
       materials = refl;
@@ -43,7 +43,7 @@ sealing_first m size id before now sealer header wide stands is put =
 module _ {R : Type 0} (state : R → SinkState) (m : EncMaterialsValue) (size : ℕ) (id text : List ℕ) (before : Option (List ℕ)) (mid after : R) (old : Sealer)
     (sealing : Sealing m size id text before (state mid).written old) where
   -- a piece was fed
-  pub sealing_more : (piece : List ℕ) (new : Sealer) → ((v : SealingValue) → Stands old v → IsFeeding v piece → FeedsPiece {T = Unit {0}} (λ a b bytes. SinkTakes (state a) (state b) bytes)
+  pub sealing_more : (piece : List ℕ) (new : Sealer) → ((v : SealingValue) → Stands old v → IsFeeding v piece → FeedsSealerPiece {T = Unit {0}} (λ a b bytes. SinkTakes (state a) (state b) bytes)
       (λ a b bytes (error : Failed). SinkFails (state a) (state b) bytes) v piece mid after new (Ok tt)) → Sealing m size id (text ++ piece) before (state after).written new
   sealing_more piece new fed_so =
       let v : SealingValue = sealing.session in
@@ -63,11 +63,11 @@ module _ {R : Type 0} (state : R → SinkState) (m : EncMaterialsValue) (size : 
       }
 
   -- the message was finished
-  pub sealing_ends : ((v : SealingValue) → Stands old v → Finishes {T = Unit {0}} (λ a b bytes. SinkTakes (state a) (state b) bytes)
+  pub sealing_ends : ((v : SealingValue) → Stands old v → SealerFinishes {T = Unit {0}} (λ a b bytes. SinkTakes (state a) (state b) bytes)
       (λ a b bytes (error : Failed). SinkFails (state a) (state b) bytes) v mid after (Ok tt)) → Appends before (state after).written (message_of m size id text)
   sealing_ends ends =
       let v : SealingValue = sealing.session in
-      let whole : given_so_far v ++ (finished v).out ≡ message_of m size id text =
+      let whole : given_so_far v ++ (sealing_finished v).out ≡ message_of m size id text =
       finishes v sealing.is_fed ∙ (λ i. message_of (sealing.materials i) (sealing.size i) (sealing.id i) (sealing.taken i)) in
       subst (λ (b : List ℕ). Appends before (state after).written b) whole
-      (Appends-trans before (state mid).written (state after).written (given_so_far v) (finished v).out sealing.gained (ends v sealing.stands).1.gained)
+      (Appends-trans before (state mid).written (state after).written (given_so_far v) (sealing_finished v).out sealing.gained (ends v sealing.stands).1.gained)

@@ -16,15 +16,16 @@ use Rattle.keyring_trait.specs.Materials.{EncMaterialsValue}
 use Rattle.keyring_trait.specs.Unlocking.{Unlocking, Unlocks}
 use Rattle.body_format.specs.declared.verdicts.Verdict.TheVariants.{Whole}
 use Rattle.message_format.specs.Judgement.{content, judged}
-use Rattle.stream_seal.specs.Start.{message_of, most_text}
-use Rattle.esdk_encrypt.specs.Encrypt.{drawn_id, written_so_far}
+use Rattle.stream_seal.specs.Start.{message_of, most_text, drawn_id}
+use Rattle.esdk_encrypt.specs.Encrypt.{written_so_far}
 use Rattle.esdk_decrypt.specs.Decrypt.{AnswersTo, FailsTo, fault_at_end, fault_of}
 use Rattle.reseal_core.specs.declared.errors.ResealError.{ResealError}
 use Rattle.reseal_core.specs.declared.errors.ResealError.TheVariants as reseals
 use Rattle.reseal_core.specs.declared.resealer.Resealer.{Resealer}
 use Rattle.reseal_core.specs.Front.{request_for}
-use Rattle.reseal_core.specs.Reseal.{HasMaterials, Resealing, RefusesHeader, Writes, WritesFront}
-use Rattle.reseal_core.specs.Session.{new_session}
+use Rattle.reseal_core.specs.Reseal.{HasMaterials, Resealing, RefusesHeader, WritesNewMessage}
+use Rattle.reseal_core.specs.Reseal.{ResealWritesFront}
+use Rattle.reseal_core.specs.Session.{new_resealing_session}
 use Rattle.reseal_core.specs.Underway.{Reached}
 use Rattle.callers.specs.declared.errors.CallError.{CallError}
 use Rattle.callers.specs.declared.errors.CallError.TheVariants as calls
@@ -51,18 +52,21 @@ pub record IsWholeAnd (asked : Resealing) (random bytes : List ℕ)
       (content (judged bytes asked.opening.settings (Unlocks context only key))))
 
 -- the new message has room for the text, and the output gained it
-abbrev pub Reseals : Resealing → List ℕ → List ℕ → SinkState → SinkState → List KeyValue → Type 0
-Reseals asked random bytes output put context = IsWholeAnd asked random bytes (λ text message.
+abbrev pub ResealsBytes : Resealing → List ℕ → List ℕ → SinkState → SinkState → List KeyValue
+    → Type 0
+ResealsBytes asked random bytes output put context = IsWholeAnd asked random bytes (λ text message.
     (length text ≤ most_text asked.size) × Appends output.written put.written message) context
 
 -- The bytes have this fault, and the output gained what is written of what they release: the new
 -- header and all frames but the last; nothing, where they aren't unlocked.
-pub record HasFault (asked : Resealing) (random bytes : List ℕ) (output put : SinkState)
+pub record ResealedBytesHaveFault (asked : Resealing) (random bytes : List ℕ)
+    (output put : SinkState)
     (fault : Fault) : Type 0 where
   pub answer : Unlocking
   pub answered : IsAnswered asked bytes answer
   pub cause : fault_at_end (judged bytes asked.opening.settings answer).verdict ≡ Some fault
-  pub written : Writes asked random answer (judged bytes asked.opening.settings answer) output put
+  pub written : WritesNewMessage asked random answer (judged bytes asked.opening.settings answer)
+      output put
 
 -- ---- other ends
 
@@ -93,7 +97,8 @@ pub record HasFrontAnd (asked : Resealing) (random : List ℕ) (so : List ℕ �
 -- why the resealer failed, and what was written
 abbrev pub ResealerFails : Resealing → List ℕ → List ℕ → SinkState → SinkState → ResealError
     → Type 0
-ResealerFails asked random bytes output put (reseals.Fault fault) = HasFault asked random bytes output put
+ResealerFails asked random bytes output put (reseals.Fault fault) =
+    ResealedBytesHaveFault asked random bytes output put
     fault
 ResealerFails asked random bytes output put (reseals.Refusal refusal) =
     (SinkTakes output put [] × OpensAnd asked bytes
@@ -113,11 +118,13 @@ ResealerFails asked random bytes output put reseals.SinkFault = Rose output.faul
     (λ text message. AppendsFront output.written put.written message) context))
 ResealerFails asked random bytes output put reseals.Stopped = ⊥
 ResealerFails asked random bytes output put reseals.Memory = SinkTakes output put []
-    ⊎ OpensAnd asked bytes (λ whole only text. WritesFront asked random whole only text output put)
+    ⊎ OpensAnd asked bytes (λ whole only text. ResealWritesFront asked random whole only text output
+    put)
 
 -- why the pieces aren't resealed, and what was written
 abbrev pub ResealsNot : Resealing → List ℕ → List ℕ → SinkState → SinkState → CallError → Type 0
-ResealsNot asked random bytes output put (calls.Reseal error) = ResealerFails asked random bytes output put
+ResealsNot asked random bytes output put (calls.Reseal error) =
+    ResealerFails asked random bytes output put
     error
 ResealsNot asked random bytes output put calls.Memory = ResealerFails asked random bytes output put
     reseals.Memory
@@ -137,6 +144,7 @@ pub record IsUnderway {A B : Type 0} (opened : A → ManagerNow) (sealed : B →
   pub first : A
   pub begun : B
   pub before : SinkState
-  pub reached : Reached opened sealed now (new_session settings given size random) bytes first
+  pub reached : Reached opened sealed now (new_resealing_session settings given size random) bytes
+      first
       opening begun sealing before output resealer
   pub count : length random ≡ 64 + 12 * (sealed sealing).meaning.wraps

@@ -1,7 +1,7 @@
 //! A manager with a cache.
 
 ghost use Rattle.std.specs.Prelude.{◌≡◌, ◌^◌, Some, IfOk};
-ghost use Rattle.cmm_caching.specs.Asked.{limits_of};
+ghost use Rattle.cmm_caching.specs.Asked.{store_limits};
 
 use crate::errors::CallError;
 use cmm_caching::{CacheLimits, CachingCmm};
@@ -19,7 +19,7 @@ pub(crate) fn cached_manager<K: Keyring>(
     ring: K,
 ) -> Result<CachingCmm<DefaultCmm<K>>, CallError>
     ensures ring { IfOk result (λ manager. manager.0 ≡ ring) }
-    ensures limits { IfOk result (λ manager. limits_of manager.1
+    ensures limits { IfOk result (λ manager. store_limits manager.1
         ≡ Some (record { capacity = 100; age = 300; messages = 1000; bytes = 2 ^ 30 })) }
 {
     let limits = CacheLimits::new(100, 300, 1_000, 1 << 30);

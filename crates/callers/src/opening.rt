@@ -2,7 +2,8 @@
 
 ghost use Rattle.std.specs.Prelude.{map, IfOk};
 ghost use Rattle.std.specs.List.{concat};
-ghost use Rattle.callers.specs.Opening.{OpensWhole, no_limits};
+ghost use Rattle.header_codec.specs.Header.{no_limits};
+ghost use Rattle.callers.specs.Opening.{OpensWholeBytes};
 
 use crate::errors::CallError;
 use context_codec::Context;
@@ -28,7 +29,7 @@ pub(crate) fn open_pieces<M: Manager, O: Sink>(
     pieces: &[&[u8]],
     output: &mut O,
 ) -> Result<Context, CallError>
-    ensures whole { IfOk result (λ context. OpensWhole no_limits
+    ensures whole { IfOk result (λ context. OpensWholeBytes no_limits
         (concat (map (λ piece. piece.now) pieces.now)) context
         (O.state output.old).written (O.state output.new).written) }
 {

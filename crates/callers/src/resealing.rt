@@ -6,9 +6,9 @@ ghost use Rattle.context_codec.specs.Context.{KeyValue};
 ghost use Rattle.header_codec.specs.declared.settings.Settings.{Settings};
 ghost use Rattle.esdk_base.specs.Streams.{SinkState};
 ghost use Rattle.reseal_core.specs.Reseal.{resealing_from};
-ghost use Rattle.reseal_core.specs.Session.{new_session};
+ghost use Rattle.reseal_core.specs.Session.{new_resealing_session};
 ghost use Rattle.reseal_core.specs.Underway.{Reached};
-ghost use Rattle.callers.specs.Resealing.{IsUnderway, Reseals, ResealsNot};
+ghost use Rattle.callers.specs.Resealing.{IsUnderway, ResealsBytes, ResealsNot};
 
 use crate::errors::CallError;
 use context_codec::Context;
@@ -43,7 +43,7 @@ pub(crate) fn reseal_pieces<A: Manager, B: Manager, O: Sink>(
 ) -> Result<Context, CallError>
     requires wide { 1 ≤ options.frame_length }
     requires random { length random.now ≡ 64 + 12 * (B.state sealing.old).meaning.wraps }
-    ensures whole { IfOk result (Reseals
+    ensures whole { IfOk result (ResealsBytes
         (resealing_from (A.state opening.old) (A.state opening.new) (B.state sealing.old)
         (B.state sealing.new) options.now options.settings given options.frame_length)
         random.now (concat (map (λ piece. piece.now) pieces.now))
@@ -91,14 +91,15 @@ fn take_piece<A: Manager, B: Manager, O: Sink>(
         resealer.old }
     ensures taken { (settings : Settings) (given : List KeyValue) (size : ℕ) (random bytes : List ℕ)
         (first : A) (begun : B) (before : SinkState)
-        → Reached A.state B.state now (new_session settings given size random) bytes first
+        → Reached A.state B.state now (new_resealing_session settings given size random) bytes first
         opening.old begun sealing.old before (O.state output.old) resealer.old
-        → IfOk result (λ _. Reached A.state B.state now (new_session settings given size random)
+        → IfOk result (λ _. Reached A.state B.state now
+        (new_resealing_session settings given size random)
         (bytes ++ piece.now) first opening.new begun sealing.new before (O.state output.new)
         resealer.new) }
     ensures cause { (settings : Settings) (given : List KeyValue) (size : ℕ) (random bytes : List ℕ)
         (first : A) (begun : B) (before : SinkState)
-        → Reached A.state B.state now (new_session settings given size random) bytes first
+        → Reached A.state B.state now (new_resealing_session settings given size random) bytes first
         opening.old begun sealing.old before (O.state output.old) resealer.old
         → (more : List ℕ) → IfErr result (ResealsNot
         (resealing_from (A.state first) (A.state opening.new) (B.state begun)

@@ -7,7 +7,7 @@ use Rattle.std.proofs.lemmas.List.{get_or_past, get_or_append_left, get_or-appen
 use Rattle.std.proofs.lemmas.List.Elements.{All-from_get_or}
 use Rattle.std.proofs.lemmas.List.FromFn.{get_or-map-range_with_len, length-map-range_with_len}
 use Rattle.cipher_spec.specs.Field.{xtime, xtimes, add_if}
-use Rattle.cipher_spec.specs.Aes.{at, state_of, sub_byte, sub_bytes, shift_rows, word_of, word_at, add_word, sub_word, rot_word, rcon, changed, key_word, words, key_expansion, round_keys, key_at, last_round, cipher, aes}
+use Rattle.cipher_spec.specs.Aes.{at, state_of, sub_byte, sub_bytes, shift_rows, word_of, word_at, add_word, sub_word, rot_word, rcon, changed, key_word, words, key_expansion, round_keys, last_round, cipher, aes}
 
 -- each member is a byte; past the end stands 0
 abbrev pub AreBytes : List ℕ → Type 0
@@ -97,7 +97,7 @@ words_are key (suc n) h = more_words (words key n) _ (words_are key n h)
     (add_word_is (word_at (words key n) (n + 8 - 8)) _ (words_are key n h (n + 8 - 8))
     (changed_is (n + 8) (word_at (words key n) (n + 8 - 1)) (words_are key n h (n + 8 - 1))))
 
-key_at_is : (key : List ℕ) → AreBytes key → AreBytes (key_at (round_keys key) 14)
+key_at_is : (key : List ℕ) → AreBytes key → AreBytes (word_at (round_keys key) 14)
 unfolding round_keys key_expansion
 key_at_is key h = state_bytes (λ row c. get_or (word_at (words key 52) (4 * 14 + c)) row 0) (λ r c. words_are key 52 h (56 + c) r)
 

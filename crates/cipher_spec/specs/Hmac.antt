@@ -1,7 +1,8 @@
 -- HMAC (RFC 2104), the keyed hash, over any digest. A digest is a function from the bytes of a
 -- message to the bytes of its digest; `block` is the length in bytes of the blocks that it hashes,
 -- the RFC's B. Section numbers are the RFC's.
-use Rattle.std.specs.Prelude.{ℕ, ◌-◌, List, ◌++◌, length, map, replicate, bit_xor, nat_lt, if◌then◌else◌}
+use Rattle.std.specs.Prelude.{ℕ, ◌-◌, List, ◌++◌, length, map, replicate, bit_xor, nat_lt}
+use Rattle.std.specs.Prelude.{if◌then◌else◌}
 use Rattle.sha2.specs.Sha256.{sha256}
 use Rattle.sha2.specs.Sha512.{sha512}
 

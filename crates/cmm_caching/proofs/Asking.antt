@@ -7,7 +7,7 @@ use Rattle.cmm_caching.specs.Limits.{LimitsValue}
 use Rattle.cmm_caching.specs.Names.{is_seal}
 use Rattle.cmm_caching.specs.Ask.{GivenValue, HandedValue, Wish, may_exceed, is_direct}
 use Rattle.cmm_caching.specs.Store.{Store, ask_kept, kept_for, after_hit, after_look, after_new, given_again, hit_or_new, is_past}
-use Rattle.cmm_caching.specs.Asked.{Asked, store_step}
+use Rattle.cmm_caching.specs.Asked.{AskedOfStore, store_step}
 
 abbrev handed : GivenValue → ℕ → HandedValue
 handed given number = record { given = given; served = Hit number }
@@ -75,6 +75,6 @@ same_width wraps s e = by_test (nat_eq wraps s.width) refl e
 -- ---- past the cache
 
 pub asked_directly : {M E : Type 0} (view : M → HandedValue) (past : Bool) (s : Store) (w : Wish) (now : ℕ) (r : Result M E) → (past || is_direct s.limits w s.next) ≡ true
-    → IfOk r (λ m. (view m).served ≡ Direct) → Asked view past s s w now r
+    → IfOk r (λ m. (view m).served ≡ Direct) → AskedOfStore view past s s w now r
 asked_directly view past s w now (Ok m) goes served = directly past s w now (view m) goes served
 asked_directly view past s w now (Err e) goes served = refl

@@ -16,7 +16,7 @@ use Rattle.cmm_caching.specs.Limits.{LimitsValue, AreLimits}
 use Rattle.cmm_caching.specs.Names.{NameValue, name_eq, is_seal}
 use Rattle.cmm_caching.specs.Ask.{GivenValue, HandedValue, Wish, may_exceed, is_direct, is_young, fits, moved}
 use Rattle.cmm_caching.specs.Store.{Store, Sound, kept_for, after_hit, after_new, used_again, use_count, fresh_kept}
-use Rattle.cmm_caching.specs.Asked.{Asked}
+use Rattle.cmm_caching.specs.Asked.{AskedOfStore}
 use Rattle.cmm_caching.specs.Journal.{names, is_sealing, seals, seal_bytes, Told, Bears}
 use Rattle.keyring_trait.specs.Manager.{AllDirect}
 use Rattle.cmm_caching.proofs.Entries.{all_weaker, all_from, all_take, all_removed, all_found}
@@ -161,7 +161,7 @@ Carries old new kind now size served result =
 
 pub bears_on : {M E : Type 0} (view : M → HandedValue) (kind : Kind) (past : Bool) (s new : Store) (w : Wish) (now : ℕ) (r : Result M E) → Sound s
     → (is_direct s.limits w s.next ≡ false → IsSized s.limits kind w.declared)
-    → Asked view past s new w now r → Carries (Bears s) (Bears new) kind now w.declared (λ m. (view m).served) r
+    → AskedOfStore view past s new w now r → Carries (Bears s) (Bears new) kind now w.declared (λ m. (view m).served) r
 bears_on view kind past s new w now (Ok m) sound sized asked = λ lines session.
     ways
     (λ h after. Bears s lines → Bears after (lines ++ record { session = session; kind = kind; served = h.served; now = now; length = w.declared } ∷ []))

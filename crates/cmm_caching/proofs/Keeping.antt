@@ -9,7 +9,7 @@ use Rattle.cmm_caching.specs.declared.kept.Kept.{Kept}
 use Rattle.cmm_caching.specs.Limits.{LimitsValue, AreLimits}
 use Rattle.cmm_caching.specs.Names.{NameValue, name_eq}
 use Rattle.cmm_caching.specs.Ask.{GivenValue, Wish, empty, is_young, fits, kept_if, moved, put_first}
-use Rattle.cmm_caching.specs.Store.{Store, Sound, HaveApartNames, FitsName, tallied, kept_for, after_hit, after_new, used_again, fresh_kept, still_serves, HasRoom}
+use Rattle.cmm_caching.specs.Store.{Store, Sound, HaveApartNames, FitsName, tallied, kept_for, after_hit, after_new, used_again, fresh_kept, still_serves, CountsHaveRoom}
 use Rattle.cmm_caching.proofs.Entries.{all_weaker, all_take, all_removed, all_found, all_moved, all_put}
 
 -- ---- numbers
@@ -108,10 +108,10 @@ empty_sound l width limits = record { limits = limits; next = omega arith; below
 -- ---- the bounds of the counts
 
 -- an entry that serves has room for this use
-pub has_room : (l : LimitsValue) (k : Kept) (w : Wish) (now : ℕ) → AreLimits l → still_serves l w now k ≡ true → HasRoom w.declared k
+pub has_room : (l : LimitsValue) (k : Kept) (w : Wish) (now : ℕ) → AreLimits l → still_serves l w now k ≡ true → CountsHaveRoom w.declared k
 has_room l k w now limits passes = by_declared w.declared (second_so (is_young l k.made now) (fits l k.count k.bytes w.declared) passes)
   where
-    by_declared : (d : Option ℕ) → fits l k.count k.bytes d ≡ true → HasRoom d k
+    by_declared : (d : Option ℕ) → fits l k.count k.bytes d ≡ true → CountsHaveRoom d k
     by_declared None e = tt
     by_declared (Some n) e =
         let few : k.count + 1 ≤ l.messages = leb-true (k.count + 1) l.messages (first_so (nat_le (k.count + 1) l.messages) (nat_le (k.bytes + n) l.bytes) e) in

@@ -7,7 +7,7 @@ use Rattle.std.specs.Option.{option_map_or}
 use Rattle.keyring_trait.specs.declared.served.Served.TheVariants.{New}
 use Rattle.cmm_caching.specs.Limits.{LimitsValue}
 use Rattle.cmm_caching.specs.Names.{name_eq}
-use Rattle.cmm_caching.specs.Ask.{GivenValue, HandedValue, CacheEntry, State, Wish, Step, Call, empty, ask, hit, made_new, passed_on, serving, serves, is_direct, kept_if, with_use, replay}
+use Rattle.cmm_caching.specs.Ask.{GivenValue, HandedValue, CacheEntry, CacheState, Wish, Step, CacheCall, empty, ask, hit, made_new, passed_on, entry_serving, serves, is_direct, kept_if, with_use, replay}
 use Rattle.cmm_caching.specs.Journal.{names}
 use Rattle.cmm_caching.specs.Laws.{AreOneMaking}
 use Rattle.cmm_caching.proofs.Entries.{all_weaker, all_found, all_moved, all_put}
@@ -23,7 +23,7 @@ record IsMade (past : List HandedValue) (number : ℕ) (given : GivenValue) : Ty
   same : answer.given ≡ given
 
 -- What is true after some answers: those of one number are of one making, all numbers were made, and what is kept was handed out.
-record After (past : List HandedValue) (s : State) : Type 0 where
+record After (past : List HandedValue) (s : CacheState) : Type 0 where
   one : AreOneMaking past
   below : (n : ℕ) (a : HandedValue) → Contains past a → IsNamed n a → n < s.next
   made : AllByRecursion (λ p. IsMade past p.1.number p.1.given) s.entries
@@ -41,7 +41,7 @@ one_pushed past h one with_last = λ n a b c d na nb. by_places n a b na nb (Con
     by_places n a b na nb (inr p) (inl q) = ap (λ (x : HandedValue). x.given) (sym p) ∙ sym (with_last n b q nb (subst (IsNamed n) (sym p) na))
     by_places n a b na nb (inr p) (inr q) = ap (λ (x : HandedValue). x.given) (sym p ∙ q)
 
-after_step : (past : List HandedValue) (s : State) (step : Step) → After past s
+after_step : (past : List HandedValue) (s : CacheState) (step : Step) → After past s
     → ((n : ℕ) (a : HandedValue) → Contains past a → IsNamed n a → IsNamed n step.handed → a.given ≡ step.handed.given)
     → ((n : ℕ) → IsNamed n step.handed → n < step.after.next) → ((n : ℕ) → n < s.next → n < step.after.next)
     → AllByRecursion (λ p. IsMade (past ++ step.handed ∷ []) p.1.number p.1.given) step.after.entries
@@ -56,17 +56,17 @@ after_step past s step after with_last last later made = record {
     by_place n a na (inl p) = later n (after.below n a p na)
     by_place n a na (inr p) = last n (subst (IsNamed n) (sym p) na)
 
-still : (past : List HandedValue) (s : State) (h : HandedValue) → After past s → AllByRecursion (λ p. IsMade (past ++ h ∷ []) p.1.number p.1.given) s.entries
+still : (past : List HandedValue) (s : CacheState) (h : HandedValue) → After past s → AllByRecursion (λ p. IsMade (past ++ h ∷ []) p.1.number p.1.given) s.entries
 still past s h after =
     all_weaker (λ p. IsMade past p.1.number p.1.given) (λ p. IsMade (past ++ h ∷ []) p.1.number p.1.given) (λ p m. made_still past h p.1.number p.1.given m) s.entries after.made
 
 -- ---- the three ways
 
-after_direct : (past : List HandedValue) (s : State) (got : GivenValue) → After past s → After (past ++ (passed_on s got).handed ∷ []) s
+after_direct : (past : List HandedValue) (s : CacheState) (got : GivenValue) → After past s → After (past ++ (passed_on s got).handed ∷ []) s
 after_direct past s got after =
     after_step past s (passed_on s got) after (λ n a c na nh. absurd cc) (λ n nh. absurd cc) (λ n less. less) (still past s (passed_on s got).handed after)
 
-after_hit : (past : List HandedValue) (s : State) (w : Wish) (e : CacheEntry) → After past s → lookup (name_eq w.name) s.entries ≡ Some e
+after_hit : (past : List HandedValue) (s : CacheState) (w : Wish) (e : CacheEntry) → After past s → lookup (name_eq w.name) s.entries ≡ Some e
     → After (past ++ (hit s w e).handed ∷ []) (hit s w e).after
 after_hit past s w e after found =
     after_step past s (hit s w e) after
@@ -82,7 +82,7 @@ after_hit past s w e after found =
     number : (n : ℕ) → IsNamed n (hit s w e).handed → e.number ≡ n
     number n nh = eqb-true e.number n nh
 
-after_new : (past : List HandedValue) (l : LimitsValue) (s : State) (w : Wish) (now : ℕ) (got : GivenValue) → After past s
+after_new : (past : List HandedValue) (l : LimitsValue) (s : CacheState) (w : Wish) (now : ℕ) (got : GivenValue) → After past s
     → After (past ++ (made_new l s w now got).handed ∷ []) (made_new l s w now got).after
 after_new past l s w now got after =
     after_step past s (made_new l s w now got) after
@@ -96,7 +96,7 @@ after_new past l s w now got after =
     h = record { given = got; served = New s.next }
 
 -- an entry that serves is the one of the name
-serving_found : (l : LimitsValue) (s : State) (w : Wish) (now : ℕ) (e : CacheEntry) → serving l s w now ≡ Some e → lookup (name_eq w.name) s.entries ≡ Some e
+serving_found : (l : LimitsValue) (s : CacheState) (w : Wish) (now : ℕ) (e : CacheEntry) → entry_serving l s w now ≡ Some e → lookup (name_eq w.name) s.entries ≡ Some e
 serving_found l s w now e is = by_found (lookup (name_eq w.name) s.entries) is
   where
     by_test : (b : Bool) (f : CacheEntry) → cond b (Some f) None ≡ Some e → Some f ≡ Some e
@@ -107,7 +107,7 @@ serving_found l s w now e is = by_found (lookup (name_eq w.name) s.entries) is
     by_found None h = absurd cc
     by_found (Some f) h = by_test (serves l f.made (length f.uses) (sum f.uses) w.declared now) f h
 
-after_ask : (past : List HandedValue) (l : LimitsValue) (s : State) (w : Wish) (now : ℕ) (got : GivenValue) → After past s
+after_ask : (past : List HandedValue) (l : LimitsValue) (s : CacheState) (w : Wish) (now : ℕ) (got : GivenValue) → After past s
     → After (past ++ (ask l s w now got).handed ∷ []) (ask l s w now got).after
 unfolding ask
 after_ask past l s w now got after = by_direct (is_direct l w s.next)
@@ -115,23 +115,23 @@ after_ask past l s w now got after = by_direct (is_direct l w s.next)
     of_step : Step → Type 0
     of_step step = After (past ++ step.handed ∷ []) step.after
 
-    by_serving : (o : Option CacheEntry) → serving l s w now ≡ o → of_step (option_map_or (hit s w) o (made_new l s w now got))
+    by_serving : (o : Option CacheEntry) → entry_serving l s w now ≡ o → of_step (option_map_or (hit s w) o (made_new l s w now got))
     by_serving None is = after_new past l s w now got after
     by_serving (Some e) is = after_hit past s w e after (serving_found l s w now e is)
 
-    by_direct : (b : Bool) → of_step (cond b (passed_on s got) (option_map_or (hit s w) (serving l s w now) (made_new l s w now got)))
+    by_direct : (b : Bool) → of_step (cond b (passed_on s got) (option_map_or (hit s w) (entry_serving l s w now) (made_new l s w now got)))
     by_direct true = after_direct past s got after
-    by_direct false = by_serving (serving l s w now) refl
+    by_direct false = by_serving (entry_serving l s w now) refl
 
 -- ---- whole runs
 
-run_on : (l : LimitsValue) (calls : List Call) (past : List HandedValue) (s : State) → After past s → AreOneMaking (past ++ replay l s calls)
+run_on : (l : LimitsValue) (calls : List CacheCall) (past : List HandedValue) (s : CacheState) → After past s → AreOneMaking (past ++ replay l s calls)
 run_on l [] past s after = subst AreOneMaking (sym (append-nil past)) after.one
 run_on l (c ∷ calls) past s after =
     subst AreOneMaking (append_assoc past ((ask l s c.wish c.now c.got).handed ∷ []) (replay l (ask l s c.wish c.now c.got).after calls))
     (run_on l calls (past ++ (ask l s c.wish c.now c.got).handed ∷ []) (ask l s c.wish c.now c.got).after (after_ask past l s c.wish c.now c.got after))
 
-pub gives_what_was_made : (l : LimitsValue) (calls : List Call) → AreOneMaking (replay l empty calls)
+pub gives_what_was_made : (l : LimitsValue) (calls : List CacheCall) → AreOneMaking (replay l empty calls)
 gives_what_was_made l calls = run_on l calls [] empty (record {
   one = λ n a b c d na nb. let clash = c.1 in absurd (omega (arith, clash));
   below = λ n a c na. let clash = c.1 in absurd (omega (arith, clash));

@@ -9,7 +9,7 @@ use Rattle.cmm_caching.specs.Names.{NameValue}
 use Rattle.cmm_caching.specs.Ask.{GivenValue, HandedValue}
 use Rattle.cmm_caching.specs.Store.{Store}
 use Rattle.cmm_caching.specs.Asked.{NotHit}
-use Rattle.cmm_caching.specs.Holding.{Holds, IsRight, IsExact, unfailing}
+use Rattle.cmm_caching.specs.Holding.{HoldsOfEachEntry, IsRight, IsExact, unfailing}
 use Rattle.cmm_caching.specs.CachingCmm.{caching_meaning, CachingTells, CachingExact}
 
 -- ---- what isn't served from an entry
@@ -64,22 +64,22 @@ refusal_same m context = refl
 -- Where P holds of all entries, and of what the inner manager gave, it holds of what is answered, and of all entries then.
 abbrev pub RightsOn : {M E : Type 0} → (M → HandedValue) → NameValue → (old new : Option Store) → Result M E → Type 1
 RightsOn view name old new r =
-    (P : NameValue → GivenValue → Type 0) → Holds P old → IfOk r (λ m. NotHit (view m).served (P name (view m).given))
-    → MatchResult r (λ m. P name (view m).given × Holds P new) (λ _. Holds P new)
+    (P : NameValue → GivenValue → Type 0) → HoldsOfEachEntry P old → IfOk r (λ m. NotHit (view m).served (P name (view m).given))
+    → MatchResult r (λ m. P name (view m).given × HoldsOfEachEntry P new) (λ _. HoldsOfEachEntry P new)
 
 -- so it does of the entries
 pub holds_then : {M E : Type 0} (view : M → HandedValue) (name : NameValue) (old new : Option Store) (r : Result M E) → RightsOn view name old new r
-    → (P : NameValue → GivenValue → Type 0) → Holds P old → IfOk r (λ m. NotHit (view m).served (P name (view m).given)) → Holds P new
+    → (P : NameValue → GivenValue → Type 0) → HoldsOfEachEntry P old → IfOk r (λ m. NotHit (view m).served (P name (view m).given)) → HoldsOfEachEntry P new
 holds_then view name old new (Ok m) rights P holds got = (rights P holds got).1
 holds_then view name old new (Err e) rights P holds got = rights P holds got
 
 -- where it has a cache still, P holds of its entries
-pub holds_cached : (P : NameValue → GivenValue → Type 0) (old new : Option Store) → is_none new ≡ is_none old → (is_none old ≡ false → Holds P new) → Holds P new
+pub holds_cached : (P : NameValue → GivenValue → Type 0) (old new : Option Store) → is_none new ≡ is_none old → (is_none old ≡ false → HoldsOfEachEntry P new) → HoldsOfEachEntry P new
 holds_cached P None None same cached = tt
 holds_cached P None (Some s) same cached = absurd (true≢false (sym same))
 holds_cached P (Some o) new same cached = cached refl
 
-pub tells_on : (old new : Option Store) (m n : ManagerNow) → is_none new ≡ is_none old → Went m n → ((keys : List WrapKeyValue) → CachingTells old m keys → Holds (IsRight keys) new)
+pub tells_on : (old new : Option Store) (m n : ManagerNow) → is_none new ≡ is_none old → Went m n → ((keys : List WrapKeyValue) → CachingTells old m keys → HoldsOfEachEntry (IsRight keys) new)
     → TellsOn (CachingTells old m) (CachingTells new n)
 tells_on old new m n same went right = λ keys t. record {
   told = went.tells keys t.told;
@@ -92,8 +92,8 @@ pub tells_back : (old new : Option Store) (m n : ManagerNow) → Went m n → (c
 tells_back None new m n went plain = λ keys t. record { told = went.same plain keys t.told; steady = λ cached. absurd (true≢false cached); right = tt }
 tells_back (Some store) new m n went plain = absurd cc
 
-pub exact_on : (old new : Option Store) (m n : ManagerNow) → Went m n → (CachingExact old m → Holds (IsExact (unfailing m.meaning)) new) → CachingExact old m → CachingExact new n
+pub exact_on : (old new : Option Store) (m n : ManagerNow) → Went m n → (CachingExact old m → HoldsOfEachEntry (IsExact (unfailing m.meaning)) new) → CachingExact old m → CachingExact new n
 exact_on old new m n went kept x = record {
   exact = went.exact x.exact;
-  kept = subst (λ (u : ManagerMeaning). Holds (IsExact u) new) (sym (unfailing_same m.meaning n.meaning went.goes)) (kept x);
+  kept = subst (λ (u : ManagerMeaning). HoldsOfEachEntry (IsExact u) new) (sym (unfailing_same m.meaning n.meaning went.goes)) (kept x);
 }

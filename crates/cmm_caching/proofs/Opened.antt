@@ -7,9 +7,9 @@ use Rattle.keyring_trait.specs.Materials.{DecMaterialsValue}
 use Rattle.keyring_trait.specs.Requests.{DecRequestValue}
 use Rattle.keyring_trait.specs.Wrapping.{WrapKeyValue}
 use Rattle.cmm_caching.specs.Names.{dec_name}
-use Rattle.cmm_caching.specs.Ask.{State, dec_given, dec_handed, dec_wish}
-use Rattle.cmm_caching.specs.Store.{Store, FitsUnseal, StandsFor}
-use Rattle.cmm_caching.specs.Asked.{AskedWith, AnswersAs, StandsAfter, IsSound, NotHit, WhereAnswered, WhereKept, limits_of}
+use Rattle.cmm_caching.specs.Ask.{CacheState, dec_given, dec_handed, dec_wish}
+use Rattle.cmm_caching.specs.Store.{Store, FitsUnseal, StoreStandsFor}
+use Rattle.cmm_caching.specs.Asked.{AskedWith, AnswersAs, StandsAfter, IsSound, NotHit, WhereAnswered, WhereKept, store_limits}
 use Rattle.cmm_caching.specs.Holding.{IsRight, IsExact, unfailing}
 use Rattle.cmm_caching.specs.CachingCmm.{caching_now, CachingTells, CachingExact, GaveToOpen}
 use Rattle.cmm_caching.specs.Inner.{OpensOver}
@@ -51,10 +51,10 @@ module _ (old new : Option Store) (m n : ManagerNow) (request : DecRequestValue)
   open_bears : IsSound old → IsAsked → BearsOn (caching_now old m) (caching_now new n) Unseal now None dec_served r
   open_bears sound asked = bears_then dec_handed never (dec_wish request) now Unseal old new r sound (λ s kept. tt) asked
 
-  open_answers : (s : State) → IsAsked → StandsFor m.meaning.wraps old s → AnswersAs dec_handed (limits_of old) s (dec_wish request) now r
+  open_answers : (s : CacheState) → IsAsked → StoreStandsFor m.meaning.wraps old s → AnswersAs dec_handed (store_limits old) s (dec_wish request) now r
   open_answers s asked stands = answers dec_handed never (dec_wish request) now m.meaning.wraps old new s r (λ c e. refl) asked stands
 
-  open_stands : (s : State) → Went m n → IsAsked → StandsFor m.meaning.wraps old s → StandsAfter dec_handed (limits_of old) n.meaning.wraps new s (dec_wish request) now r
+  open_stands : (s : CacheState) → Went m n → IsAsked → StoreStandsFor m.meaning.wraps old s → StandsAfter dec_handed (store_limits old) n.meaning.wraps new s (dec_wish request) now r
   open_stands s went asked stands = stands_then dec_handed never (dec_wish request) now m.meaning.wraps n.meaning.wraps old new s r went.goes.wraps (λ c e. refl) asked stands
 
 module _ (old new : Option Store) (m n : ManagerNow) (request : DecRequestValue) (now : ℕ) where
@@ -79,8 +79,8 @@ module _ (old new : Option Store) (m n : ManagerNow) (request : DecRequestValue)
   open_cause (Err e) none = finds_none m n request old new e none
 
 -- what is so where an entry of the cache answers, is so where one of the state does
-pub open_answered : (P : Type 0) (old : Option Store) (m : ManagerNow) (request : DecRequestValue) (now : ℕ) (s : State)
-    → WhereKept (λ _. false) old (dec_wish request) now P → StandsFor m.meaning.wraps old s → WhereAnswered (limits_of old) s (dec_wish request) now P
+pub open_answered : (P : Type 0) (old : Option Store) (m : ManagerNow) (request : DecRequestValue) (now : ℕ) (s : CacheState)
+    → WhereKept (λ _. false) old (dec_wish request) now P → StoreStandsFor m.meaning.wraps old s → WhereAnswered (store_limits old) s (dec_wish request) now P
 open_answered P old m request now s kept stands = where_answered (λ _. false) (dec_wish request) now P m.meaning.wraps old s (λ c e. refl) kept stands
 
 -- All that is promised of the answer.
@@ -90,9 +90,9 @@ pub record OpenPromises (old new : Option Store) (m n : ManagerNow) (request : D
   pub finds : IfOk r (FindsMaterials (caching_now old m) (caching_now new n) request)
   pub cause : IfErr r (FindsNone (caching_now old m) (caching_now new n) request)
   pub bears : BearsOn (caching_now old m) (caching_now new n) Unseal now None dec_served r
-  pub answers : (s : State) → StandsFor m.meaning.wraps old s → AnswersAs dec_handed (limits_of old) s (dec_wish request) now r
-  pub stands : (s : State) → StandsFor m.meaning.wraps old s → StandsAfter dec_handed (limits_of old) n.meaning.wraps new s (dec_wish request) now r
-  pub limits : limits_of new ≡ limits_of old
+  pub answers : (s : CacheState) → StoreStandsFor m.meaning.wraps old s → AnswersAs dec_handed (store_limits old) s (dec_wish request) now r
+  pub stands : (s : CacheState) → StoreStandsFor m.meaning.wraps old s → StandsAfter dec_handed (store_limits old) n.meaning.wraps new s (dec_wish request) now r
+  pub limits : store_limits new ≡ store_limits old
 
 pub open_promises : (old new : Option Store) (m n : ManagerNow) (request : DecRequestValue) (now : ℕ)
     (r : Result DecMaterialsValue ManagerError) → OpensOver m n request now r → AskedWith dec_handed (λ _. false) old new (dec_wish request) now r → IsSound old

@@ -4,7 +4,7 @@ use Rattle.keyring_trait.specs.declared.served.Served.{Served}
 use Rattle.keyring_trait.specs.declared.served.Served.TheVariants.{Direct, New, Hit}
 use Rattle.cmm_caching.specs.Limits.{LimitsValue}
 use Rattle.cmm_caching.specs.Names.{NameValue, name_eq}
-use Rattle.cmm_caching.specs.Ask.{GivenValue, Call, empty, ask, replay}
+use Rattle.cmm_caching.specs.Ask.{GivenValue, CacheCall, empty, ask, replay}
 
 -- what the inner manager gives plays no part
 abbrev given : GivenValue
@@ -18,13 +18,13 @@ sealing key required = record { suite = None; pairs = (key, codes "value") ∷ [
 abbrev opening : List ℕ → NameValue
 opening key = record { suite = Some 1144; pairs = []; given = (key, codes "value") ∷ []; required = []; entries = [] }
 
-abbrev call : NameValue → Option ℕ → ℕ → Call
+abbrev call : NameValue → Option ℕ → ℕ → CacheCall
 call name declared now = record { wish = record { name = name; declared = declared }; now = now; got = given }
 
 abbrev limits : ℕ → ℕ → ℕ → ℕ → LimitsValue
 limits capacity age messages bytes = record { capacity = capacity; age = age; messages = messages; bytes = bytes }
 
-abbrev served : LimitsValue → List Call → List Served
+abbrev served : LimitsValue → List CacheCall → List Served
 served l calls = map (λ h. h.served) (replay l empty calls)
 
 -- one entry only: each of two requests in turn is a new one

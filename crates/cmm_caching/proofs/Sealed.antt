@@ -7,9 +7,9 @@ use Rattle.keyring_trait.specs.Materials.{EncMaterialsValue}
 use Rattle.keyring_trait.specs.Requests.{EncRequestValue}
 use Rattle.keyring_trait.specs.Wrapping.{WrapKeyValue}
 use Rattle.cmm_caching.specs.Names.{enc_name}
-use Rattle.cmm_caching.specs.Ask.{State, enc_given, enc_handed, enc_wish}
-use Rattle.cmm_caching.specs.Store.{Store, FitsSeal, StandsFor, is_past}
-use Rattle.cmm_caching.specs.Asked.{AskedWith, AnswersAs, StandsAfter, IsSound, NotHit, WhereAnswered, WhereKept, limits_of}
+use Rattle.cmm_caching.specs.Ask.{CacheState, enc_given, enc_handed, enc_wish}
+use Rattle.cmm_caching.specs.Store.{Store, FitsSeal, StoreStandsFor, is_past}
+use Rattle.cmm_caching.specs.Asked.{AskedWith, AnswersAs, StandsAfter, IsSound, NotHit, WhereAnswered, WhereKept, store_limits}
 use Rattle.cmm_caching.specs.Holding.{IsRight, IsExact, unfailing}
 use Rattle.cmm_caching.specs.CachingCmm.{caching_now, CachingTells, CachingExact, GaveToSeal}
 use Rattle.cmm_caching.proofs.Bearing.{sized_seal}
@@ -50,10 +50,10 @@ module _ (old new : Option Store) (m n : ManagerNow) (request : EncRequestValue)
   seal_bears sound asked =
       bears_then enc_handed (is_past m.meaning.wraps) (enc_wish request) now Seal old new r sound (λ s kept. sized_seal s.limits (enc_wish request) s.next refl kept) asked
 
-  seal_answers : (s : State) → IsAsked → StandsFor m.meaning.wraps old s → AnswersAs enc_handed (limits_of old) s (enc_wish request) now r
+  seal_answers : (s : CacheState) → IsAsked → StoreStandsFor m.meaning.wraps old s → AnswersAs enc_handed (store_limits old) s (enc_wish request) now r
   seal_answers s asked stands = answers enc_handed (is_past m.meaning.wraps) (enc_wish request) now m.meaning.wraps old new s r (λ c e. not_past m.meaning.wraps c s e) asked stands
 
-  seal_stands : (s : State) → Went m n → IsAsked → StandsFor m.meaning.wraps old s → StandsAfter enc_handed (limits_of old) n.meaning.wraps new s (enc_wish request) now r
+  seal_stands : (s : CacheState) → Went m n → IsAsked → StoreStandsFor m.meaning.wraps old s → StandsAfter enc_handed (store_limits old) n.meaning.wraps new s (enc_wish request) now r
   seal_stands s went asked stands =
       stands_then enc_handed (is_past m.meaning.wraps) (enc_wish request) now m.meaning.wraps n.meaning.wraps old new s r went.goes.wraps (λ c e. not_past m.meaning.wraps c s e) asked stands
 
@@ -78,8 +78,8 @@ module _ (old new : Option Store) (m n : ManagerNow) (request : EncRequestValue)
   seal_cause (Err e) none = gives_none m n request old new e none
 
 -- what is so where an entry of the cache answers, is so where one of the state does
-pub seal_answered : (P : Type 0) (old : Option Store) (m : ManagerNow) (request : EncRequestValue) (now : ℕ) (s : State)
-    → WhereKept (is_past m.meaning.wraps) old (enc_wish request) now P → StandsFor m.meaning.wraps old s → WhereAnswered (limits_of old) s (enc_wish request) now P
+pub seal_answered : (P : Type 0) (old : Option Store) (m : ManagerNow) (request : EncRequestValue) (now : ℕ) (s : CacheState)
+    → WhereKept (is_past m.meaning.wraps) old (enc_wish request) now P → StoreStandsFor m.meaning.wraps old s → WhereAnswered (store_limits old) s (enc_wish request) now P
 seal_answered P old m request now s kept stands = where_answered (is_past m.meaning.wraps) (enc_wish request) now P m.meaning.wraps old s (λ c e. not_past m.meaning.wraps c s e) kept stands
 
 -- All that is promised of the answer.
@@ -89,9 +89,9 @@ pub record SealPromises (old new : Option Store) (m n : ManagerNow) (request : E
   pub gives : IfOk r (GivesMaterials (caching_now old m) request random)
   pub cause : IfErr r (GivesNone (caching_now old m) (caching_now new n) request)
   pub bears : BearsOn (caching_now old m) (caching_now new n) Seal now request.declared enc_served r
-  pub answers : (s : State) → StandsFor m.meaning.wraps old s → AnswersAs enc_handed (limits_of old) s (enc_wish request) now r
-  pub stands : (s : State) → StandsFor m.meaning.wraps old s → StandsAfter enc_handed (limits_of old) n.meaning.wraps new s (enc_wish request) now r
-  pub limits : limits_of new ≡ limits_of old
+  pub answers : (s : CacheState) → StoreStandsFor m.meaning.wraps old s → AnswersAs enc_handed (store_limits old) s (enc_wish request) now r
+  pub stands : (s : CacheState) → StoreStandsFor m.meaning.wraps old s → StandsAfter enc_handed (store_limits old) n.meaning.wraps new s (enc_wish request) now r
+  pub limits : store_limits new ≡ store_limits old
 
 pub seal_promises : (old new : Option Store) (m n : ManagerNow) (request : EncRequestValue) (now : ℕ) (random : List ℕ)
     (r : Result EncMaterialsValue ManagerError) → SealsOver m n request now random r → AskedWith enc_handed (is_past m.meaning.wraps) old new (enc_wish request) now r

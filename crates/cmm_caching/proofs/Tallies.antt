@@ -7,9 +7,9 @@ use Rattle.std.specs.Option.{option_map_or}
 use Rattle.cmm_caching.specs.declared.kept.Kept.{Kept}
 use Rattle.cmm_caching.specs.Limits.{LimitsValue}
 use Rattle.cmm_caching.specs.Names.{NameValue, name_eq}
-use Rattle.cmm_caching.specs.Ask.{GivenValue, HandedValue, CacheEntry, State, Wish, Step, ask, hit, made_new, passed_on, serving, serves, is_direct, kept_if, moved, put_first, with_use}
+use Rattle.cmm_caching.specs.Ask.{GivenValue, HandedValue, CacheEntry, CacheState, Wish, Step, ask, hit, made_new, passed_on, entry_serving, serves, is_direct, kept_if, moved, put_first, with_use}
 use Rattle.cmm_caching.specs.Store.{Store, StoreStep, tally, tallied_entry, tallied, ask_kept, kept_for, still_serves, used_again, fresh_kept, hit_or_new, is_past}
-use Rattle.cmm_caching.specs.Asked.{Asked, AnswersAs, StandsAfter, store_step}
+use Rattle.cmm_caching.specs.Asked.{AskedOfStore, AnswersAs, StandsAfter, store_step}
 
 -- ---- uses and their tallies
 
@@ -71,7 +71,7 @@ put_tallied capacity name k e es is = rw (lookup_tallied name es) (by_found (loo
 
 -- ---- what is answered
 
-pub serving_tallied : (l : LimitsValue) (width : ℕ) (s : State) (w : Wish) (now : ℕ) → kept_for (tallied l width s) w now ≡ option_map tally (serving l s w now)
+pub serving_tallied : (l : LimitsValue) (width : ℕ) (s : CacheState) (w : Wish) (now : ℕ) → kept_for (tallied l width s) w now ≡ option_map tally (entry_serving l s w now)
 serving_tallied l width s w now = rw (lookup_tallied w.name s.entries) (by_found (lookup (name_eq w.name) s.entries))
   where
     by_test : (b : Bool) (e : CacheEntry) → cond b (Some (tally e)) None ≡ option_map tally (cond b (Some e) None)
@@ -86,7 +86,7 @@ serving_tallied l width s w now = rw (lookup_tallied w.name s.entries) (by_found
 abbrev step_of : LimitsValue → ℕ → Step → StoreStep
 step_of l width step = store_step step.handed (tallied l width step.after)
 
-pub tally_step : (l : LimitsValue) (width : ℕ) (s : State) (w : Wish) (now : ℕ) (got : GivenValue) → ask_kept false (tallied l width s) w now got ≡ step_of l width (ask l s w now got)
+pub tally_step : (l : LimitsValue) (width : ℕ) (s : CacheState) (w : Wish) (now : ℕ) (got : GivenValue) → ask_kept false (tallied l width s) w now got ≡ step_of l width (ask l s w now got)
 unfolding ask_kept ask
 tally_step l width s w now got = by_direct (is_direct l w s.next)
   where
@@ -112,31 +112,31 @@ tally_step l width s w now got = by_direct (is_direct l w s.next)
     }
 
     by_direct : (b : Bool) → cond b (store_step (record { given = got; served = Direct }) (tallied l width s)) (hit_or_new (tallied l width s) w now got (kept_for (tallied l width s) w now))
-        ≡ step_of l width (cond b (passed_on s got) (option_map_or (hit s w) (serving l s w now) (made_new l s w now got)))
+        ≡ step_of l width (cond b (passed_on s got) (option_map_or (hit s w) (entry_serving l s w now) (made_new l s w now got)))
     by_direct true = refl
-    by_direct false = rw (serving_tallied l width s w now) (by_serving (serving l s w now))
+    by_direct false = rw (serving_tallied l width s w now) (by_serving (entry_serving l s w now))
 
 -- ---- the law of managers
 
-pub not_past : (width : ℕ) (c : Store) (s : State) → c ≡ tallied c.limits width s → is_past width c ≡ false
+pub not_past : (width : ℕ) (c : Store) (s : CacheState) → c ≡ tallied c.limits width s → is_past width c ≡ false
 not_past width c s stands =
     let same : width ≡ c.width = sym (ap (λ (x : Store). x.width) stands) in
     ap not (eq-eqb width c.width same)
 
 -- the answer and the cache after it, from a state that the cache stands for
-whole : (past : Bool) (width : ℕ) (c new : Store) (s : State) (w : Wish) (now : ℕ) (h : HandedValue) → c ≡ tallied c.limits width s → past ≡ false
+whole : (past : Bool) (width : ℕ) (c new : Store) (s : CacheState) (w : Wish) (now : ℕ) (h : HandedValue) → c ≡ tallied c.limits width s → past ≡ false
     → store_step h new ≡ ask_kept past c w now h.given → store_step h new ≡ step_of c.limits width (ask c.limits s w now h.given)
 whole past width c new s w now h stands within asked =
     asked ∙ (λ i. ask_kept (within i) (stands i) w now h.given) ∙ tally_step c.limits width s w now h.given
 
-module _ {M E : Type 0} (view : M → HandedValue) (past : Bool) (width : ℕ) (c new : Store) (s : State) (w : Wish) (now : ℕ) where
+module _ {M E : Type 0} (view : M → HandedValue) (past : Bool) (width : ℕ) (c new : Store) (s : CacheState) (w : Wish) (now : ℕ) where
   -- the answer is the one of the state
-  pub answering : (r : Result M E) → c ≡ tallied c.limits width s → past ≡ false → Asked view past c new w now r → AnswersAs view (Some c.limits) s w now r
+  pub answering : (r : Result M E) → c ≡ tallied c.limits width s → past ≡ false → AskedOfStore view past c new w now r → AnswersAs view (Some c.limits) s w now r
   answering (Ok m) stands within asked = ap (λ (x : StoreStep). x.handed) (whole past width c new s w now (view m) stands within asked)
   answering (Err e) stands within asked = tt
 
   -- and the cache stands for the state after it
-  pub standing : (later : ℕ) (r : Result M E) → later ≡ width → c ≡ tallied c.limits width s → past ≡ false → Asked view past c new w now r
+  pub standing : (later : ℕ) (r : Result M E) → later ≡ width → c ≡ tallied c.limits width s → past ≡ false → AskedOfStore view past c new w now r
       → StandsAfter view (Some c.limits) later (Some new) s w now r
   standing later (Ok m) same stands within asked =
       let after : new ≡ tallied c.limits width (ask c.limits s w now (view m).given).after = ap (λ (x : StoreStep). x.after) (whole past width c new s w now (view m) stands within asked) in

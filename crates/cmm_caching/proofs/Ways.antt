@@ -5,8 +5,8 @@ use Rattle.cmm_caching.specs.declared.kept.Kept.{Kept}
 use Rattle.cmm_caching.specs.Names.{NameValue}
 use Rattle.cmm_caching.specs.Ask.{GivenValue, HandedValue, Wish, is_direct}
 use Rattle.cmm_caching.specs.Store.{Store, StoreStep, ask_kept, kept_for, after_hit, after_new, handed_directly, handed_again, handed_new, hit_or_new, used_again, fresh_kept}
-use Rattle.cmm_caching.specs.Asked.{Asked, NotHit, limits_of, store_step}
-use Rattle.cmm_caching.specs.Holding.{Holds}
+use Rattle.cmm_caching.specs.Asked.{AskedOfStore, NotHit, store_limits, store_step}
+use Rattle.cmm_caching.specs.Holding.{HoldsOfEachEntry}
 use Rattle.cmm_caching.proofs.Entries.{all_found, all_moved, all_put}
 use Rattle.cmm_caching.proofs.Keeping.{kept_parts}
 
@@ -33,17 +33,17 @@ ways C past s new w now h asked direct again newly = subst of_step (sym asked) (
 
 module _ {M E : Type 0} (view : M → HandedValue) (past : Bool) (s new : Store) (w : Wish) (now : ℕ) where
   -- the limits stay
-  pub limits_kept : (r : Result M E) → Asked view past s new w now r → limits_of (Some new) ≡ limits_of (Some s)
+  pub limits_kept : (r : Result M E) → AskedOfStore view past s new w now r → store_limits (Some new) ≡ store_limits (Some s)
   limits_kept (Ok m) asked =
       ap Some (ways (λ _ after. after.limits ≡ s.limits) past s new w now (view m) asked refl (λ _ _ _. refl) (λ _. refl))
   limits_kept (Err e) asked = ap (λ (x : Store). Some x.limits) asked
 
   -- Where P holds of all entries, and of what the inner manager gave, it holds of what is answered, and of all entries then.
-  pub right_on : (P : NameValue → GivenValue → Type 0) (r : Result M E) → Asked view past s new w now r → Holds P (Some s)
+  pub right_on : (P : NameValue → GivenValue → Type 0) (r : Result M E) → AskedOfStore view past s new w now r → HoldsOfEachEntry P (Some s)
       → IfOk r (λ m. NotHit (view m).served (P w.name (view m).given))
-      → MatchResult r (λ m. P w.name (view m).given × Holds P (Some new)) (λ _. Holds P (Some new))
+      → MatchResult r (λ m. P w.name (view m).given × HoldsOfEachEntry P (Some new)) (λ _. HoldsOfEachEntry P (Some new))
   right_on P (Ok m) asked holds got =
-      ways (λ h after. NotHit h.served (P w.name h.given) → P w.name h.given × Holds P (Some after)) past s new w now (view m) asked
+      ways (λ h after. NotHit h.served (P w.name h.given) → P w.name h.given × HoldsOfEachEntry P (Some after)) past s new w now (view m) asked
       (λ p. (p, holds))
       (λ k _ found _.
       let p : P w.name k.given = all_found of_entry w.name s.entries k holds (kept_parts s w now k found).0 in
@@ -53,4 +53,4 @@ module _ {M E : Type 0} (view : M → HandedValue) (past : Bool) (s new : Store)
     where
       of_entry : NameValue × Kept → Type 0
       of_entry p = P p.0 p.1.given
-  right_on P (Err e) asked holds got = subst (λ (x : Store). Holds P (Some x)) (sym asked) holds
+  right_on P (Err e) asked holds got = subst (λ (x : Store). HoldsOfEachEntry P (Some x)) (sym asked) holds

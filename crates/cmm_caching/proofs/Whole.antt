@@ -8,10 +8,10 @@ use Rattle.keyring_trait.specs.Manager.{ManagerNow, Went}
 use Rattle.keyring_trait.specs.Wrapping.{WrapKeyValue}
 use Rattle.cmm_caching.specs.Limits.{LimitsValue}
 use Rattle.cmm_caching.specs.Names.{NameValue}
-use Rattle.cmm_caching.specs.Ask.{GivenValue, HandedValue, CacheEntry, State, Wish, is_direct, serving}
-use Rattle.cmm_caching.specs.Store.{Store, StandsFor, kept_for, tally, tallied}
-use Rattle.cmm_caching.specs.Asked.{AskedWith, AnswersAs, StandsAfter, IsSound, NotHit, WhereAnswered, WhereKept, limits_of}
-use Rattle.cmm_caching.specs.Holding.{Holds, IsRight, IsExact, unfailing}
+use Rattle.cmm_caching.specs.Ask.{GivenValue, HandedValue, CacheEntry, CacheState, Wish, is_direct, entry_serving}
+use Rattle.cmm_caching.specs.Store.{Store, StoreStandsFor, kept_for, tally, tallied}
+use Rattle.cmm_caching.specs.Asked.{AskedWith, AnswersAs, StandsAfter, IsSound, NotHit, WhereAnswered, WhereKept, store_limits}
+use Rattle.cmm_caching.specs.Holding.{HoldsOfEachEntry, IsRight, IsExact, unfailing}
 use Rattle.cmm_caching.specs.Journal.{BearsWith, KeepsWithin}
 use Rattle.cmm_caching.specs.CachingCmm.{CachingTells, CachingExact, caching_now}
 use Rattle.cmm_caching.proofs.Bearing.{IsSized, Carries, bears_on, bears_direct_on, bears_none}
@@ -28,20 +28,20 @@ none_direct E view past w now (Some s) new m asked none = absurd cc
 
 module _ (past : Store → Bool) (w : Wish) (now : ℕ) where
   -- what is so where an entry of the cache answers, is so where one of the state does
-  pub where_answered : (P : Type 0) (width : ℕ) (old : Option Store) (s : State) → ((c : Store) → c ≡ tallied c.limits width s → past c ≡ false)
-      → WhereKept past old w now P → StandsFor width old s → WhereAnswered (limits_of old) s w now P
+  pub where_answered : (P : Type 0) (width : ℕ) (old : Option Store) (s : CacheState) → ((c : Store) → c ≡ tallied c.limits width s → past c ≡ false)
+      → WhereKept past old w now P → StoreStandsFor width old s → WhereAnswered (store_limits old) s w now P
   where_answered P width None s within kept stands = tt
   where_answered P width (Some c) s within kept stands = by_direct (is_direct c.limits w s.next) refl
     where
-      by_serving : (o : Option CacheEntry) → serving c.limits s w now ≡ o → is_direct c.limits w s.next ≡ false → IfSome o (λ _. P)
+      by_serving : (o : Option CacheEntry) → entry_serving c.limits s w now ≡ o → is_direct c.limits w s.next ≡ false → IfSome o (λ _. P)
       by_serving None e direct = tt
       by_serving (Some x) e direct =
           kept (within c stands) (ap (λ (t : Store). is_direct c.limits w t.next) stands ∙ direct) (tally x)
           (ap (λ (t : Store). kept_for t w now) stands ∙ serving_tallied c.limits width s w now ∙ ap (option_map tally) e)
 
-      by_direct : (b : Bool) → is_direct c.limits w s.next ≡ b → IfSome (cond b None (serving c.limits s w now)) (λ _. P)
+      by_direct : (b : Bool) → is_direct c.limits w s.next ≡ b → IfSome (cond b None (entry_serving c.limits s w now)) (λ _. P)
       by_direct true e = tt
-      by_direct false e = by_serving (serving c.limits s w now) refl e
+      by_direct false e = by_serving (entry_serving c.limits s w now) refl e
 
 module _ {M E : Type 0} (view : M → HandedValue) (past : Store → Bool) (w : Wish) (now : ℕ) where
   pub same_kind : (old new : Option Store) (r : Result M E) → AskedWith view past old new w now r → is_none new ≡ is_none old
@@ -50,14 +50,14 @@ module _ {M E : Type 0} (view : M → HandedValue) (past : Store → Bool) (w : 
   same_kind (Some s) None r asked = absurd asked
   same_kind (Some s) (Some c) r asked = refl
 
-  pub same_limits : (old new : Option Store) (r : Result M E) → AskedWith view past old new w now r → limits_of new ≡ limits_of old
+  pub same_limits : (old new : Option Store) (r : Result M E) → AskedWith view past old new w now r → store_limits new ≡ store_limits old
   same_limits None None r asked = refl
   same_limits None (Some c) r asked = absurd asked
   same_limits (Some s) None r asked = absurd asked
   same_limits (Some s) (Some c) r asked = limits_kept view (past s) s c w now r asked
 
   rights_without : (P : NameValue → GivenValue → Type 0) (r : Result M E) → IfOk r (λ m. (view m).served ≡ Direct) → IfOk r (λ m. NotHit (view m).served (P w.name (view m).given))
-      → MatchResult r (λ m. P w.name (view m).given × Holds P None) (λ _. Holds P None)
+      → MatchResult r (λ m. P w.name (view m).given × HoldsOfEachEntry P None) (λ _. HoldsOfEachEntry P None)
   rights_without P (Ok m) direct got = (subst (λ (served : Served). NotHit served (P w.name (view m).given)) direct got, tt)
   rights_without P (Err e) direct got = tt
 
@@ -68,16 +68,16 @@ module _ {M E : Type 0} (view : M → HandedValue) (past : Store → Bool) (w : 
   rights (Some s) (Some c) r asked = λ P holds got. right_on view (past s) s c w now P r asked holds got
 
   -- the law of managers
-  pub answers : (width : ℕ) (old new : Option Store) (s : State) (r : Result M E) → ((c : Store) → c ≡ tallied c.limits width s → past c ≡ false)
-      → AskedWith view past old new w now r → StandsFor width old s → AnswersAs view (limits_of old) s w now r
+  pub answers : (width : ℕ) (old new : Option Store) (s : CacheState) (r : Result M E) → ((c : Store) → c ≡ tallied c.limits width s → past c ≡ false)
+      → AskedWith view past old new w now r → StoreStandsFor width old s → AnswersAs view (store_limits old) s w now r
   answers width None None s (Ok m) within asked stands = λ i. record { given = (view m).given; served = asked i }
   answers width None None s (Err e) within asked stands = tt
   answers width None (Some c) s r within asked stands = absurd asked
   answers width (Some b) None s r within asked stands = absurd asked
   answers width (Some b) (Some c) s r within asked stands = answering view (past b) width b c s w now r stands (within b stands) asked
 
-  pub stands_then : (width later : ℕ) (old new : Option Store) (s : State) (r : Result M E) → later ≡ width → ((c : Store) → c ≡ tallied c.limits width s → past c ≡ false)
-      → AskedWith view past old new w now r → StandsFor width old s → StandsAfter view (limits_of old) later new s w now r
+  pub stands_then : (width later : ℕ) (old new : Option Store) (s : CacheState) (r : Result M E) → later ≡ width → ((c : Store) → c ≡ tallied c.limits width s → past c ≡ false)
+      → AskedWith view past old new w now r → StoreStandsFor width old s → StandsAfter view (store_limits old) later new s w now r
   stands_then width later None None s (Ok m) same within asked stands = stands
   stands_then width later None None s (Err e) same within asked stands = stands
   stands_then width later None (Some c) s r same within asked stands = absurd asked
@@ -99,7 +99,7 @@ bears_nothing None = λ k d within. absurd (omega (arith, within))
 bears_nothing (Some s) = bears_none s
 
 -- what it bears is within the limits
-pub bears_within : (o : Option Store) (lines : List JournalLine) → BearsWith o lines → KeepsWithin (limits_of o) lines
+pub bears_within : (o : Option Store) (lines : List JournalLine) → BearsWith o lines → KeepsWithin (store_limits o) lines
 bears_within None lines direct = direct
 bears_within (Some s) lines bears = bears.within
 
@@ -110,15 +110,15 @@ within_kept old new lines same within = subst (λ (l : Option LimitsValue). Keep
 -- ---- what the manager keeps
 
 -- what the inner manager keeps, where it has a cache after the call as before, of the same limits
-pub went_caching : (old new : Option Store) (m n : ManagerNow) → is_none new ≡ is_none old → limits_of new ≡ limits_of old → Went m n
-    → ((keys : List WrapKeyValue) → CachingTells old m keys → Holds (IsRight keys) new)
-    → (CachingExact old m → Holds (IsExact (unfailing m.meaning)) new) → Went (caching_now old m) (caching_now new n)
+pub went_caching : (old new : Option Store) (m n : ManagerNow) → is_none new ≡ is_none old → store_limits new ≡ store_limits old → Went m n
+    → ((keys : List WrapKeyValue) → CachingTells old m keys → HoldsOfEachEntry (IsRight keys) new)
+    → (CachingExact old m → HoldsOfEachEntry (IsExact (unfailing m.meaning)) new) → Went (caching_now old m) (caching_now new n)
 went_caching old new m n same limits went right exact = record {
   goes = goes_caching old new m.meaning n.meaning same went.goes;
   tells = tells_on old new m n same went right;
   same = tells_back old new m n went;
   exact = exact_on old new m n went exact;
-  limits = λ lines within. within_kept (limits_of old) (limits_of new) lines limits within;
+  limits = λ lines within. within_kept (store_limits old) (store_limits new) lines limits within;
 }
 
 -- Without a call it goes on as it is.

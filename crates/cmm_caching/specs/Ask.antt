@@ -1,5 +1,7 @@
 -- The cache: what it answers to a request, and what it holds then.
-use Rattle.std.specs.Prelude.{ℕ, ◌+◌, ◌-◌, ◌^◌, Bool, true, ◌&&◌, ◌||◌, List, [], ◌∷◌, length, take, sum, Option, Some, None, nat_lt, nat_le, if◌then◌else◌, option_and_then}
+use Rattle.std.specs.Prelude.{ℕ, ◌+◌, ◌-◌, ◌^◌, Bool, true, ◌&&◌, ◌||◌, List, [], ◌∷◌, length, take}
+use Rattle.std.specs.Prelude.{sum, Option, Some, None, nat_lt, nat_le, if◌then◌else◌}
+use Rattle.std.specs.Prelude.{option_and_then}
 use Rattle.std.specs.Map.{lookup, remove_entry}
 use Rattle.std.specs.Option.{option_map_or}
 use Rattle.context_codec.specs.Context.{KeyValue}
@@ -80,11 +82,11 @@ pub record CacheEntry : Type 0 where
   pub uses : List ℕ
 
 -- The entries under their names, the last used first, and the number of the next one.
-pub record State : Type 0 where
+pub record CacheState : Type 0 where
   pub entries : List (NameValue × CacheEntry)
   pub next : ℕ
 
-abbrev pub empty : State
+abbrev pub empty : CacheState
 empty = record { entries = []; next = 1 }
 
 -- what is asked: the name of the request, and how many bytes are to be encrypted, where that is
@@ -133,14 +135,14 @@ abbrev pub kept_if : {X : Type 0} → (X → Bool) → X → Option X
 kept_if test x = if test x then Some x else None
 
 -- the entry of the request's name, where it serves
-abbrev pub serving : LimitsValue → State → Wish → ℕ → Option CacheEntry
-serving l s w now =
+abbrev pub entry_serving : LimitsValue → CacheState → Wish → ℕ → Option CacheEntry
+entry_serving l s w now =
     option_and_then (kept_if (λ e. serves l e.made (length e.uses) (sum e.uses) w.declared now))
     (lookup (name_eq w.name) s.entries)
 
 -- the entry that answers the request, where one does
-abbrev pub answering : LimitsValue → State → Wish → ℕ → Option CacheEntry
-answering l s w now = if is_direct l w s.next then None else serving l s w now
+abbrev pub answering : LimitsValue → CacheState → Wish → ℕ → Option CacheEntry
+answering l s w now = if is_direct l w s.next then None else entry_serving l s w now
 
 -- ---- what is answered
 
@@ -159,10 +161,10 @@ put_first capacity name e entries =
 -- an answer, and the cache after it
 pub record Step : Type 0 where
   pub handed : HandedValue
-  pub after : State
+  pub after : CacheState
 
 -- the entry gives its materials, gains this use and goes to the front
-abbrev pub hit : State → Wish → CacheEntry → Step
+abbrev pub hit : CacheState → Wish → CacheEntry → Step
 hit s w e = record {
   handed = record { given = e.given; served = Hit e.number };
   after = record s {
@@ -171,7 +173,7 @@ hit s w e = record {
 }
 
 -- what the inner manager gave is a new entry
-abbrev pub made_new : LimitsValue → State → Wish → ℕ → GivenValue → Step
+abbrev pub made_new : LimitsValue → CacheState → Wish → ℕ → GivenValue → Step
 made_new l s w now got = record {
   handed = record { given = got; served = New s.next };
   after = record {
@@ -186,26 +188,26 @@ made_new l s w now got = record {
 }
 
 -- what the inner manager gave is handed on, and the cache stays
-abbrev pub passed_on : State → GivenValue → Step
+abbrev pub passed_on : CacheState → GivenValue → Step
 passed_on s got = record { handed = record { given = got; served = Direct }; after = s }
 
 -- What a cache with these limits answers at the moment `now`, where the inner manager, if it is
 -- asked, gives `got`.
-unfoldable pub ask : LimitsValue → State → Wish → ℕ → GivenValue → Step
+unfoldable pub ask : LimitsValue → CacheState → Wish → ℕ → GivenValue → Step
 ask l s w now got =
     if is_direct l w s.next then passed_on s got
-    else option_map_or (hit s w) (serving l s w now) (made_new l s w now got)
+    else option_map_or (hit s w) (entry_serving l s w now) (made_new l s w now got)
 
 -- ---- runs
 
 -- a request at its moment, and what the inner manager gives in it, if it is asked
-pub record Call : Type 0 where
+pub record CacheCall : Type 0 where
   pub wish : Wish
   pub now : ℕ
   pub got : GivenValue
 
 -- what is answered to one request after another
-abbrev pub replay : LimitsValue → State → List Call → List HandedValue
+abbrev pub replay : LimitsValue → CacheState → List CacheCall → List HandedValue
 replay l s [] = []
 replay l s (c ∷ calls) =
     let step = ask l s c.wish c.now c.got in step.handed ∷ replay l step.after calls

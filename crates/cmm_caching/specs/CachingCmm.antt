@@ -7,10 +7,10 @@ use Rattle.keyring_trait.specs.Materials.{EncMaterialsValue, DecMaterialsValue}
 use Rattle.keyring_trait.specs.Requests.{EncRequestValue, DecRequestValue}
 use Rattle.keyring_trait.specs.Wrapping.{WrapKeyValue}
 use Rattle.cmm_caching.specs.Ask.{GivenValue, enc_given, dec_given, seal_materials, open_materials}
-use Rattle.cmm_caching.specs.Asked.{NotHit, limits_of}
+use Rattle.cmm_caching.specs.Asked.{NotHit, store_limits}
 use Rattle.cmm_caching.specs.Store.{Store}
 use Rattle.cmm_caching.specs.Journal.{BearsWith, KeepsWithin}
-use Rattle.cmm_caching.specs.Holding.{Holds, IsRight, IsExact, unfailing}
+use Rattle.cmm_caching.specs.Holding.{HoldsOfEachEntry, IsRight, IsExact, unfailing}
 
 -- It wraps, refuses, fails and demands as that manager does. It is fresh where that one is plain,
 -- and plain where it has no cache, too.
@@ -26,12 +26,12 @@ pub record CachingTells (cache : Option Store) (inner : ManagerNow)
     (keys : List WrapKeyValue) : Type 0 where
   pub told : inner.tells keys
   pub steady : is_none cache ≡ false → inner.meaning.steady ≡ true
-  pub right : Holds (IsRight keys) cache
+  pub right : HoldsOfEachEntry (IsRight keys) cache
 
 -- It is exact where the inner manager is, and every entry is what an exact manager gives.
 pub record CachingExact (cache : Option Store) (inner : ManagerNow) : Type 0 where
   pub exact : inner.exact
-  pub kept : Holds (IsExact (unfailing inner.meaning)) cache
+  pub kept : HoldsOfEachEntry (IsExact (unfailing inner.meaning)) cache
 
 -- ---- what the inner manager gave, without how it served it
 
@@ -75,7 +75,7 @@ caching_now cache inner = record {
   tells = CachingTells cache inner;
   exact = CachingExact cache inner;
   bears = BearsWith cache;
-  within = KeepsWithin (limits_of cache);
+  within = KeepsWithin (store_limits cache);
   gave = λ request now random. CachingGave (inner.gave request now random);
   found = λ request now. CachingFound (inner.found request now);
 }

@@ -11,9 +11,9 @@ use Rattle.cmm_caching.specs.Names.{NameValue}
 use Rattle.cmm_caching.specs.Store.{Store}
 
 -- P holds of each entry's name and materials
-abbrev pub Holds : (NameValue → GivenValue → Type 0) → Option Store → Type 0
-Holds P None = ⊤
-Holds P (Some c) = AllByRecursion (λ p. P p.0 p.1.given) c.entries
+abbrev pub HoldsOfEachEntry : (NameValue → GivenValue → Type 0) → Option Store → Type 0
+HoldsOfEachEntry P None = ⊤
+HoldsOfEachEntry P (Some c) = AllByRecursion (λ p. P p.0 p.1.given) c.entries
 
 -- ---- materials that these keys give
 

@@ -1,6 +1,6 @@
 -- What the laws of this crate say of the cache.
 use Rattle.std.specs.Prelude.{◌≡◌, ◌↔◌, ℕ, true, List, Contains}
-use Rattle.cmm_caching.specs.Ask.{Call, HandedValue, empty, replay}
+use Rattle.cmm_caching.specs.Ask.{CacheCall, HandedValue, empty, replay}
 use Rattle.cmm_caching.specs.Journal.{names}
 use Rattle.cmm_caching.specs.Limits.{LimitsValue}
 use Rattle.cmm_caching.specs.Names.{NameValue, name_eq}
@@ -16,4 +16,4 @@ AreOneMaking answers = (n : ℕ) (a b : HandedValue) → Contains answers a → 
 
 -- In each run a hit gives the materials that the entry was made with.
 abbrev pub GivesWhatWasMade : Type 0
-GivesWhatWasMade = (l : LimitsValue) (calls : List Call) → AreOneMaking (replay l empty calls)
+GivesWhatWasMade = (l : LimitsValue) (calls : List CacheCall) → AreOneMaking (replay l empty calls)

@@ -2,12 +2,14 @@
 -- are fed alike to a hasher.
 use Rattle.std.specs.Prelude.{◌≡◌, ℕ, true, List, Option, Some, None, nat_eq, refl, Decides}
 use Rattle.std.proofs.Common.{ap, sym, true≢false}
-use Rattle.std.specs.Cmp.{IsEquivalence, IsPartialEquivalence, partial_equiv_from_equiv, decided, unsigned_Decides}
+use Rattle.std.specs.Cmp.{IsEquivalence, IsPartialEquivalence, partial_equiv_from_equiv, decided}
+use Rattle.std.specs.Cmp.{unsigned_Decides}
 use Rattle.std.specs.Cmp.Lexicographic.{pointwise, pointwise_decides, bytes_decides}
 use Rattle.std.specs.Option.{option_eq}
 use Rattle.context_codec.specs.Context.{KeyValue}
 use Rattle.edk_codec.specs.Equal.{both_decide, entry_decides}
-use Rattle.cmm_caching.specs.Names.{NameValue, key_eq, pair_eq, name_eq, key_hash, pair_hash, name_hash}
+use Rattle.cmm_caching.specs.Names.{NameValue, key_eq, pair_eq, name_eq, key_hash, pair_hash}
+use Rattle.cmm_caching.specs.Names.{name_hash}
 
 key_decides : (a b : List ℕ) → Decides (key_eq a b) (a ≡ b)
 key_decides = bytes_decides

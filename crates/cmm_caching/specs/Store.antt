@@ -1,6 +1,8 @@
 -- The cache as the code keeps it: of the uses of an entry only their count and the sum of their
 -- lengths.
-use Rattle.std.specs.Prelude.{◌≡◌, ℕ, ◌+◌, ◌^◌, ◌≤◌, ◌<◌, Bool, ◌||◌, true, List, [], ◌∷◌, length, map, sum, ⊤, All, Option, Some, None, not, nat_eq, if◌then◌else◌, option_and_then, MatchOption, ◌≢◌}
+use Rattle.std.specs.Prelude.{◌≡◌, ℕ, ◌+◌, ◌^◌, ◌≤◌, ◌<◌, Bool, ◌||◌, true, List, [], ◌∷◌, length}
+use Rattle.std.specs.Prelude.{map, sum, ⊤, All, Option, Some, None, not, nat_eq, if◌then◌else◌}
+use Rattle.std.specs.Prelude.{option_and_then, MatchOption, ◌≢◌}
 use Rattle.std.specs.List.{AllByRecursion}
 use Rattle.std.specs.Map.{lookup}
 use Rattle.std.specs.Option.{option_map_or}
@@ -11,7 +13,8 @@ use Rattle.keyring_trait.specs.declared.served.Served.TheVariants.{Direct, New, 
 use Rattle.cmm_caching.specs.declared.kept.Kept.{Kept}
 use Rattle.cmm_caching.specs.Limits.{LimitsValue, AreLimits}
 use Rattle.cmm_caching.specs.Names.{NameValue, name_eq}
-use Rattle.cmm_caching.specs.Ask.{GivenValue, HandedValue, CacheEntry, State, Wish, empty, serves, is_direct, kept_if, moved, put_first}
+use Rattle.cmm_caching.specs.Ask.{GivenValue, HandedValue, CacheEntry, CacheState, Wish, empty}
+use Rattle.cmm_caching.specs.Ask.{serves, is_direct, kept_if, moved, put_first}
 
 -- The limits, how many encrypted data keys the materials to encrypt with have, the entries under
 -- their names, the last used first, and the number of the next one.
@@ -36,7 +39,7 @@ abbrev pub tallied_entry : NameValue × CacheEntry → NameValue × Kept
 tallied_entry p = (p.0, tally p.1)
 
 -- a state's entries in the same order, with the count of their uses and the sum of their lengths
-abbrev pub tallied : LimitsValue → ℕ → State → Store
+abbrev pub tallied : LimitsValue → ℕ → CacheState → Store
 tallied l width s = record {
   limits = l;
   width = width;
@@ -46,9 +49,9 @@ tallied l width s = record {
 
 -- The cache of a manager whose inner one makes so many encrypted data keys stands for the state.
 -- Without a cache it is the empty one.
-abbrev pub StandsFor : ℕ → Option Store → State → Type 0
-StandsFor width None s = s ≡ empty
-StandsFor width (Some c) s = c ≡ tallied c.limits width s
+abbrev pub StoreStandsFor : ℕ → Option Store → CacheState → Type 0
+StoreStandsFor width None s = s ≡ empty
+StoreStandsFor width (Some c) s = c ≡ tallied c.limits width s
 
 -- ---- what it answers
 
@@ -68,9 +71,9 @@ used_again declared k = record k {
 }
 
 -- the counts of an entry don't overflow with this use
-abbrev pub HasRoom : Option ℕ → Kept → Type 0
-HasRoom None k = ⊤
-HasRoom (Some n) k = (k.count + 1 < 2 ^ 64) × (k.bytes + n < 2 ^ 64)
+abbrev pub CountsHaveRoom : Option ℕ → Kept → Type 0
+CountsHaveRoom None k = ⊤
+CountsHaveRoom (Some n) k = (k.count + 1 < 2 ^ 64) × (k.bytes + n < 2 ^ 64)
 
 abbrev pub fresh_kept : ℕ → ℕ → GivenValue → Option ℕ → Kept
 fresh_kept number now given declared =

@@ -1,12 +1,15 @@
 //! The cache: the entries under the names of their requests, the last used first.
 
-ghost use Rattle.std.specs.Prelude.{◌≡◌, ◌≤◌, ◌<◌, ◌+◌, ◌^◌, ◌&&◌, ◌||◌, not, nat_eq, nat_lt, [], Some, IfOk, IfSome, OnOk, OnErr, option_map, option_copied};
+ghost use Rattle.std.specs.Prelude.{◌≡◌, ◌≤◌, ◌<◌, ◌+◌, ◌^◌, ◌&&◌, ◌||◌, not, nat_eq, nat_lt, []};
+ghost use Rattle.std.specs.Prelude.{Some, IfOk, IfSome, OnOk, OnErr, option_map, option_copied};
 ghost use Rattle.std.specs.Map.{lookup};
 ghost use Rattle.lru.specs.LruCache.{lru_cache};
 ghost use Rattle.cmm_caching.specs.Limits.{AreLimits};
 ghost use Rattle.cmm_caching.specs.Names.{name_eq};
 ghost use Rattle.cmm_caching.specs.Ask.{empty, may_exceed, moved, put_first};
-ghost use Rattle.cmm_caching.specs.Store.{Store, Sound, FitsName, tallied, kept_for, after_look, after_new, asked_for, given_again, used_again, HasRoom, is_past};
+ghost use Rattle.cmm_caching.specs.Store.{Store, Sound, FitsName, tallied, kept_for, after_look};
+ghost use Rattle.cmm_caching.specs.Store.{after_new, asked_for, given_again, used_again};
+ghost use Rattle.cmm_caching.specs.Store.{CountsHaveRoom, is_past};
 ghost use Rattle.cmm_caching.specs.declared.kept.Kept.{Kept};
 
 use crate::given::Given;
@@ -166,7 +169,7 @@ fn look<'a>(entries: &'a LruCache<Name, Kept>, name: &Name) -> Option<&'a Kept>
 /// Adds a use to the entry of that name, which becomes the last used.
 fn use_again(entries: &mut LruCache<Name, Kept>, name: &Name, declared: Option<u64>)
     requires { (k : Kept) → lookup (name_eq name.now) entries.old.entries ≡ Some k
-        → HasRoom declared k }
+        → CountsHaveRoom declared k }
     ensures { (k : Kept) → lookup (name_eq name.now) entries.old.entries ≡ Some k
         → entries.new ≡ lru_cache (moved name.now (used_again declared k) entries.old.entries)
         entries.old.cap }

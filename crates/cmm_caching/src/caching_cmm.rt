@@ -1,15 +1,19 @@
 //! The caching materials manager. AWS Encryption SDK Specification, "Caching CMM".
 
-ghost use Rattle.std.specs.Prelude.{◌≡◌, ◌+◌, ◌*◌, true, false, List, length, None, is_none, Option, IfOk, IfErr};
+ghost use Rattle.std.specs.Prelude.{◌≡◌, ◌+◌, ◌*◌, true, false, List, length, None, is_none};
+ghost use Rattle.std.specs.Prelude.{Option, IfOk, IfErr};
 ghost use Rattle.keyring_trait.specs.declared.journal.Kind.TheVariants.{Seal, Unseal};
 ghost use Rattle.keyring_trait.specs.declared.manager_errors.ManagerError.TheVariants.{Memory};
-ghost use Rattle.keyring_trait.specs.Manager.{Went, GivesMaterials, GivesNone, FindsMaterials, FindsNone, BearsOn, enc_served, dec_served};
+ghost use Rattle.keyring_trait.specs.Manager.{Went, GivesMaterials, GivesNone, FindsMaterials};
+ghost use Rattle.keyring_trait.specs.Manager.{FindsNone, BearsOn, enc_served, dec_served};
 ghost use Rattle.keyring_trait.specs.Wrapping.{WrapKeyValue};
-ghost use Rattle.cmm_caching.specs.Ask.{State, empty, enc_handed, dec_handed, enc_wish, dec_wish};
-ghost use Rattle.cmm_caching.specs.Store.{StandsFor};
-ghost use Rattle.cmm_caching.specs.Asked.{AnswersAs, StandsAfter, WhereAnswered, limits_of};
+ghost use Rattle.cmm_caching.specs.Ask.{CacheState, empty, enc_handed, dec_handed, enc_wish};
+ghost use Rattle.cmm_caching.specs.Ask.{dec_wish};
+ghost use Rattle.cmm_caching.specs.Store.{StoreStandsFor};
+ghost use Rattle.cmm_caching.specs.Asked.{AnswersAs, StandsAfter, WhereAnswered, store_limits};
 ghost use Rattle.cmm_caching.specs.Journal.{BearsWith, KeepsWithin};
-ghost use Rattle.cmm_caching.specs.CachingCmm.{CachingTells, CachingExact, CachingGave, CachingFound, caching_now};
+ghost use Rattle.cmm_caching.specs.CachingCmm.{CachingTells, CachingExact, CachingGave};
+ghost use Rattle.cmm_caching.specs.CachingCmm.{CachingFound, caching_now};
 
 use crate::cache::Cache;
 use crate::limits::CacheLimits;
@@ -56,8 +60,8 @@ impl<M: Manager> CachingCmm<M> {
         limits: Option<CacheLimits>,
     ) -> Result<CachingCmm<M>, AllocError>
         ensures inner { IfOk result (λ c. c.0 ≡ inner) }
-        ensures limits { IfOk result (λ c. limits_of c.1 ≡ limits) }
-        ensures stands { IfOk result (λ c. StandsFor (M.state inner).meaning.wraps c.1 empty) }
+        ensures limits { IfOk result (λ c. store_limits c.1 ≡ limits) }
+        ensures stands { IfOk result (λ c. StoreStandsFor (M.state inner).meaning.wraps c.1 empty) }
         ensures tells { IfOk result (λ c. (keys : List WrapKeyValue) → (M.state inner).tells keys
             → (is_none limits ≡ false → (M.state inner).meaning.steady ≡ true)
             → CachingTells c.1 (M.state inner) keys) }
@@ -83,7 +87,7 @@ impl<M: Manager> CachingCmm<M> {
     /// a cache everything was served directly. It has no work to do, and takes no memory.
     pub fn journal_within(&self, lines: &[JournalLine])
         requires { BearsWith self.now.1 lines.now }
-        ensures { KeepsWithin (limits_of self.now.1) lines.now }
+        ensures { KeepsWithin (store_limits self.now.1) lines.now }
     {}
 }
 
@@ -134,18 +138,22 @@ impl<M: Manager> Manager for CachingCmm<M> {
             enc_served result }
         ensures gave { IfOk result (CachingGave ((M.state self.new.0).gave request.now now
             random.now)) }
-        ensures answers { (s : State) → StandsFor (M.state self.old.0).meaning.wraps self.old.1 s
-            → AnswersAs enc_handed (limits_of self.old.1) s (enc_wish request.now) now result }
-        ensures stands { (s : State) → StandsFor (M.state self.old.0).meaning.wraps self.old.1 s
-            → StandsAfter enc_handed (limits_of self.old.1)
+        ensures answers { (s : CacheState) → StoreStandsFor (M.state self.old.0).meaning.wraps
+            self.old.1 s
+            → AnswersAs enc_handed (store_limits self.old.1) s (enc_wish request.now) now result }
+        ensures stands { (s : CacheState) → StoreStandsFor (M.state self.old.0).meaning.wraps
+            self.old.1 s
+            → StandsAfter enc_handed (store_limits self.old.1)
             (M.state self.new.0).meaning.wraps self.new.1 s (enc_wish request.now) now result }
-        ensures spares { (s : State) → StandsFor (M.state self.old.0).meaning.wraps self.old.1 s
-            → WhereAnswered (limits_of self.old.1) s (enc_wish request.now) now
+        ensures spares { (s : CacheState) → StoreStandsFor (M.state self.old.0).meaning.wraps
+            self.old.1 s
+            → WhereAnswered (store_limits self.old.1) s (enc_wish request.now) now
             (self.new.0 ≡ self.old.0) }
-        ensures certain { (s : State) → StandsFor (M.state self.old.0).meaning.wraps self.old.1 s
-            → WhereAnswered (limits_of self.old.1) s (enc_wish request.now) now
+        ensures certain { (s : CacheState) → StoreStandsFor (M.state self.old.0).meaning.wraps
+            self.old.1 s
+            → WhereAnswered (store_limits self.old.1) s (enc_wish request.now) now
             (IfErr result (λ error. error ≡ Memory)) }
-        ensures limits { limits_of self.new.1 ≡ limits_of self.old.1 }
+        ensures limits { store_limits self.new.1 ≡ store_limits self.old.1 }
     {
         seal(
             &mut self.cache,
@@ -172,18 +180,22 @@ impl<M: Manager> Manager for CachingCmm<M> {
         ensures bears { BearsOn (caching_now self.old.1 (M.state self.old.0))
             (caching_now self.new.1 (M.state self.new.0)) Unseal now None dec_served result }
         ensures found { IfOk result (CachingFound ((M.state self.new.0).found request.now now)) }
-        ensures answers { (s : State) → StandsFor (M.state self.old.0).meaning.wraps self.old.1 s
-            → AnswersAs dec_handed (limits_of self.old.1) s (dec_wish request.now) now result }
-        ensures stands { (s : State) → StandsFor (M.state self.old.0).meaning.wraps self.old.1 s
-            → StandsAfter dec_handed (limits_of self.old.1)
+        ensures answers { (s : CacheState) → StoreStandsFor (M.state self.old.0).meaning.wraps
+            self.old.1 s
+            → AnswersAs dec_handed (store_limits self.old.1) s (dec_wish request.now) now result }
+        ensures stands { (s : CacheState) → StoreStandsFor (M.state self.old.0).meaning.wraps
+            self.old.1 s
+            → StandsAfter dec_handed (store_limits self.old.1)
             (M.state self.new.0).meaning.wraps self.new.1 s (dec_wish request.now) now result }
-        ensures spares { (s : State) → StandsFor (M.state self.old.0).meaning.wraps self.old.1 s
-            → WhereAnswered (limits_of self.old.1) s (dec_wish request.now) now
+        ensures spares { (s : CacheState) → StoreStandsFor (M.state self.old.0).meaning.wraps
+            self.old.1 s
+            → WhereAnswered (store_limits self.old.1) s (dec_wish request.now) now
             (self.new.0 ≡ self.old.0) }
-        ensures certain { (s : State) → StandsFor (M.state self.old.0).meaning.wraps self.old.1 s
-            → WhereAnswered (limits_of self.old.1) s (dec_wish request.now) now
+        ensures certain { (s : CacheState) → StoreStandsFor (M.state self.old.0).meaning.wraps
+            self.old.1 s
+            → WhereAnswered (store_limits self.old.1) s (dec_wish request.now) now
             (IfErr result (λ error. error ≡ Memory)) }
-        ensures limits { limits_of self.new.1 ≡ limits_of self.old.1 }
+        ensures limits { store_limits self.new.1 ≡ store_limits self.old.1 }
     {
         open(&mut self.cache, &mut self.inner, alloc, request, now)
     }

@@ -2,7 +2,8 @@
 
 ghost use Rattle.std.specs.Prelude.{◌≡◌, [], IfOk};
 ghost use Rattle.keyring_trait.specs.Materials.{AreEncMaterials};
-ghost use Rattle.cmm_caching.specs.Ask.{GivenValue, HandedValue, enc_given, dec_given, enc_handed, dec_handed};
+ghost use Rattle.cmm_caching.specs.Ask.{GivenValue, HandedValue, enc_given, dec_given, enc_handed};
+ghost use Rattle.cmm_caching.specs.Ask.{dec_handed};
 
 use context_codec::{Context, KeySet};
 use edk_codec::{DataKeyEntry, copied_entries};

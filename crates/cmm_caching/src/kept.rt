@@ -1,7 +1,7 @@
 //! An entry of the cache.
 
 ghost use Rattle.std.specs.Prelude.{◌≡◌};
-ghost use Rattle.cmm_caching.specs.Store.{fresh_kept, used_again, HasRoom};
+ghost use Rattle.cmm_caching.specs.Store.{fresh_kept, used_again, CountsHaveRoom};
 
 use crate::given::Given;
 
@@ -41,7 +41,7 @@ impl Kept {
 
     /// Adds a use, where a length is declared.
     pub(crate) fn use_again(&mut self, declared: Option<u64>)
-        requires { HasRoom declared self.old }
+        requires { CountsHaveRoom declared self.old }
         ensures { self.new ≡ used_again declared self.old }
     {
         if let Some(length) = declared {

@@ -1,8 +1,11 @@
 //! The names of a cache's entries: whole requests, compared as values.
 
 ghost use Rattle.std.specs.Prelude.{◌≡◌, IfOk};
-ghost use Rattle.cmm_caching.specs.Names.{NameValue, key_eq, pair_eq, name_eq, key_hash, pair_hash, name_hash, enc_name, dec_name};
-ghost use Rattle.cmm_caching.specs.NameLaws.{pair_equiv, key_equiv, name_equiv, pair_partial, key_partial, name_partial, pair_fed, key_fed, name_fed};
+ghost use Rattle.cmm_caching.specs.Names.{NameValue, key_eq, pair_eq, name_eq, key_hash, pair_hash};
+ghost use Rattle.cmm_caching.specs.Names.{name_hash, enc_name, dec_name};
+ghost use Rattle.cmm_caching.specs.NameLaws.{pair_equiv, key_equiv, name_equiv, pair_partial};
+ghost use Rattle.cmm_caching.specs.NameLaws.{key_partial, name_partial, pair_fed, key_fed};
+ghost use Rattle.cmm_caching.specs.NameLaws.{name_fed};
 
 use context_codec::{Context, Pair};
 use edk_codec::{DataKeyEntry, copied_entries};

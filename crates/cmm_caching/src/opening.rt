@@ -7,7 +7,7 @@ ghost use Rattle.keyring_trait.specs.Manager.{Went, FindsNone};
 ghost use Rattle.cmm_caching.specs.Names.{dec_name};
 ghost use Rattle.cmm_caching.specs.Ask.{dec_handed, dec_wish, is_direct};
 ghost use Rattle.cmm_caching.specs.Store.{FitsUnseal, Sound, kept_for};
-ghost use Rattle.cmm_caching.specs.Asked.{Asked, AskedWith, IsSound, WhereKept};
+ghost use Rattle.cmm_caching.specs.Asked.{AskedOfStore, AskedWith, IsSound, WhereKept};
 ghost use Rattle.cmm_caching.specs.CachingCmm.{GaveToOpen, WasFound};
 ghost use Rattle.cmm_caching.specs.Inner.{OpensOver};
 
@@ -65,7 +65,8 @@ fn open_new<M: Manager>(
     requires missing { kept_for cache.old (dec_wish request.now) now ≡ None }
     ensures opens { OpensOver (M.state inner.old) (M.state inner.new)
         request.now now result }
-    ensures asked { Asked dec_handed false cache.old cache.new (dec_wish request.now) now result }
+    ensures asked { AskedOfStore dec_handed false cache.old cache.new (dec_wish request.now) now
+        result }
 {
     let given = ask_to_open(inner, alloc, request, now)?;
     let number = cache.keep(name, None, now, given.copy(alloc)?)?;
@@ -85,7 +86,8 @@ fn open_through<M: Manager>(
     requires kept { is_direct cache.old.limits (dec_wish request.now) cache.old.next ≡ false }
     ensures opens { OpensOver (M.state inner.old) (M.state inner.new)
         request.now now result }
-    ensures asked { Asked dec_handed false cache.old cache.new (dec_wish request.now) now result }
+    ensures asked { AskedOfStore dec_handed false cache.old cache.new (dec_wish request.now) now
+        result }
     ensures spares { WhereKept (λ _. false) (Some cache.old) (dec_wish request.now) now
         (inner.new ≡ inner.old) }
     ensures certain { WhereKept (λ _. false) (Some cache.old) (dec_wish request.now) now
@@ -110,7 +112,8 @@ fn open_kept<M: Manager>(
 ) -> Result<DecMaterials, ManagerError>
     ensures opens { OpensOver (M.state inner.old) (M.state inner.new)
         request.now now result }
-    ensures asked { Asked dec_handed false cache.old cache.new (dec_wish request.now) now result }
+    ensures asked { AskedOfStore dec_handed false cache.old cache.new (dec_wish request.now) now
+        result }
     ensures sound { Sound cache.old }
     ensures spares { WhereKept (λ _. false) (Some cache.old) (dec_wish request.now) now
         (inner.new ≡ inner.old) }

@@ -7,7 +7,7 @@ ghost use Rattle.keyring_trait.specs.Manager.{Went, GivesNone};
 ghost use Rattle.cmm_caching.specs.Names.{enc_name};
 ghost use Rattle.cmm_caching.specs.Ask.{enc_handed, enc_wish, is_direct};
 ghost use Rattle.cmm_caching.specs.Store.{FitsSeal, Sound, is_past, kept_for};
-ghost use Rattle.cmm_caching.specs.Asked.{Asked, AskedWith, IsSound, WhereKept};
+ghost use Rattle.cmm_caching.specs.Asked.{AskedOfStore, AskedWith, IsSound, WhereKept};
 ghost use Rattle.cmm_caching.specs.CachingCmm.{GaveToSeal, WasGiven};
 ghost use Rattle.cmm_caching.specs.Inner.{SealsOver};
 
@@ -72,7 +72,8 @@ fn seal_new<M: Manager>(
     requires missing { kept_for cache.old (enc_wish request.now) now ≡ None }
     ensures seals { SealsOver (M.state inner.old) (M.state inner.new)
         request.now now random.now result }
-    ensures asked { Asked enc_handed (is_past (M.state inner.old).meaning.wraps cache.old) cache.old
+    ensures asked { AskedOfStore enc_handed (is_past (M.state inner.old).meaning.wraps cache.old)
+        cache.old
         cache.new (enc_wish request.now) now result }
 {
     let given = ask_to_seal(inner, alloc, request, now, random)?;
@@ -96,7 +97,8 @@ fn seal_through<M: Manager>(
     requires kept { is_direct cache.old.limits (enc_wish request.now) cache.old.next ≡ false }
     ensures seals { SealsOver (M.state inner.old) (M.state inner.new)
         request.now now random.now result }
-    ensures asked { Asked enc_handed (is_past (M.state inner.old).meaning.wraps cache.old) cache.old
+    ensures asked { AskedOfStore enc_handed (is_past (M.state inner.old).meaning.wraps cache.old)
+        cache.old
         cache.new (enc_wish request.now) now result }
     ensures spares { WhereKept (is_past (M.state inner.old).meaning.wraps) (Some cache.old)
         (enc_wish request.now) now (inner.new ≡ inner.old) }
@@ -124,7 +126,8 @@ fn seal_kept<M: Manager>(
     requires { length random.now ≡ 32 + 12 * (M.state inner.old).meaning.wraps }
     ensures seals { SealsOver (M.state inner.old) (M.state inner.new)
         request.now now random.now result }
-    ensures asked { Asked enc_handed (is_past (M.state inner.old).meaning.wraps cache.old) cache.old
+    ensures asked { AskedOfStore enc_handed (is_past (M.state inner.old).meaning.wraps cache.old)
+        cache.old
         cache.new (enc_wish request.now) now result }
     ensures sound { Sound cache.old }
     ensures spares { WhereKept (is_past (M.state inner.old).meaning.wraps) (Some cache.old)

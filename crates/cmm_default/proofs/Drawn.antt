@@ -11,7 +11,7 @@ use Rattle.keyring_trait.specs.Materials.{EncMaterialsValue}
 use Rattle.keyring_trait.specs.Requests.{EncRequestValue}
 use Rattle.keyring_trait.specs.Wrapping.{WrapKeyValue, active, made, ivs_of, AreIvs}
 use Rattle.cmm_default.specs.DefaultCmm.{default_meaning, default_now}
-use Rattle.cmm_default.specs.Steps.{materials_of}
+use Rattle.cmm_default.specs.Steps.{wrapped_materials}
 
 -- ---- initialization vectors
 
@@ -37,7 +37,7 @@ at_told o keys P is known = subst (λ k. IfSome k P) is known
 -- The keyring drew the data key from the random bytes, and the materials are those of the request.
 pub gives_drawn : (ring : KeyringMeaning) (request : EncRequestValue) (random : List ℕ) (wrapped : WrappedValue) (given : EncMaterialsValue)
     → length random ≡ 32 + 12 * ring.wraps → IfSome ring.keys (λ keys. length (active keys) ≡ ring.wraps) → request_refusal (default_meaning ring) request.context ≡ None
-    → Wraps ring request.context random None wrapped → given ≡ materials_of request wrapped
+    → Wraps ring request.context random None wrapped → given ≡ wrapped_materials request wrapped
     → GivesMaterials (default_now ring) request random given
 gives_drawn ring request random wrapped given long told unrefused wraps is =
     subst (λ (m : EncMaterialsValue). GivesMaterials (default_now ring) request random m) (sym is)

@@ -13,8 +13,8 @@ use Rattle.keyring_trait.specs.Unlocking.{pair_offence}
 use Rattle.keyring_trait.specs.declared.served.Served.TheVariants.{Direct}
 
 -- the materials of a request, where the keyring made these entries of a data key
-abbrev pub materials_of : EncRequestValue → WrappedValue → EncMaterialsValue
-materials_of request wrapped = record {
+abbrev pub wrapped_materials : EncRequestValue → WrappedValue → EncMaterialsValue
+wrapped_materials request wrapped = record {
   context = request.context;
   required = request.required;
   key = wrapped.key;

@@ -1,10 +1,11 @@
 //! The steps of a request to encrypt.
 
-ghost use Rattle.std.specs.Prelude.{◌≡◌, ◌≤◌, ◌+◌, ◌*◌, None, find, length, option_map, IfOk, IfErr};
+ghost use Rattle.std.specs.Prelude.{◌≡◌, ◌≤◌, ◌+◌, ◌*◌, None, find, length, option_map, IfOk};
+ghost use Rattle.std.specs.Prelude.{IfErr};
 ghost use Rattle.keyring_trait.specs.Keyring.{KeyringGoes, Wraps};
 ghost use Rattle.keyring_trait.specs.Manager.{has_reserved_prefix, refusal_named, request_refusal};
 ghost use Rattle.cmm_default.specs.DefaultCmm.{default_meaning};
-ghost use Rattle.cmm_default.specs.Steps.{materials_of, WrapsNot};
+ghost use Rattle.cmm_default.specs.Steps.{wrapped_materials, WrapsNot};
 
 use context_codec::{Context, Pair};
 use esdk_fields::{Refusal, Text};
@@ -91,7 +92,7 @@ pub(crate) fn enc_materials(
 ) -> Result<EncMaterials, AllocError>
     requires some { 1 ≤ length wrapped.entries }
     requires few { length wrapped.entries ≤ 64 }
-    ensures { IfOk result (λ made. made ≡ materials_of request.now wrapped) }
+    ensures { IfOk result (λ made. made ≡ wrapped_materials request.now wrapped) }
 {
     let context = request.context().copy(alloc)?;
     let required = request.required().copy(alloc)?;

@@ -7,10 +7,10 @@ use Rattle.std.proofs.lemmas.Cmp.{nat_list_cmp_total}
 use Rattle.context_codec.specs.Context.{KeyValue, IsAscending}
 use Rattle.context_codec.specs.KeySet.{AreAscendingKeys}
 use Rattle.context_codec.specs.Parts.{holds}
-use Rattle.context_codec.specs.Laws.{IsLeast}
 use Rattle.context_codec.proofs.Keys.{key_cmp, less_other}
 use Rattle.context_codec.proofs.Members.{Contains-head, Contains-tail, Contains-cases, Contains-nil}
 use Rattle.context_codec.proofs.Parts.{holds_own, holds_pair}
+use Rattle.context_codec.specs.Laws.{IsLeastKey}
 
 -- ---- lists that ascend by a key
 
@@ -106,7 +106,7 @@ found_from_first key test (z ∷ xs) x up first = find_step key test z xs x (tes
 
 -- of a set of keys
 pub least_of_keys : (test : List ℕ → Bool) (keys : List (List ℕ)) → AreAscendingKeys keys → (key : List ℕ)
-    → (find test keys ≡ Some key) ↔ IsLeast (λ k. Contains keys k × (test k ≡ true)) key
+    → (find test keys ≡ Some key) ↔ IsLeastKey (λ k. Contains keys k × (test k ≡ true)) key
 least_of_keys test keys up key =
     let rises = rises_from (λ k. k) keys up in (
       λ e.
@@ -118,12 +118,12 @@ least_of_keys test keys up key =
     )
 
 pair_found : (test : List ℕ → Bool) (pairs : List KeyValue) → IsAscending pairs → (key : List ℕ) (found : Option KeyValue) → find (λ p. test p.0) pairs ≡ found
-    → option_map (λ p. p.0) found ≡ Some key → IsLeast (λ k. (holds pairs k ≡ true) × (test k ≡ true)) key
+    → option_map (λ p. p.0) found ≡ Some key → IsLeastKey (λ k. (holds pairs k ≡ true) × (test k ≡ true)) key
 pair_found test pairs up key None is e = absurd cc
 pair_found test pairs up key (Some p) is e =
     let first = first_from_found (λ (p : KeyValue). p.0) (λ p. test p.0) pairs p (rises_from (λ (p : KeyValue). p.0) pairs up) is in
     let same : p.0 ≡ key = cc in
-    subst (λ (k : List ℕ). IsLeast (λ k. (holds pairs k ≡ true) × (test k ≡ true)) k) same
+    subst (λ (k : List ℕ). IsLeastKey (λ k. (holds pairs k ≡ true) × (test k ≡ true)) k) same
     (record {
       fits = (holds_own pairs p first.listed, first.passing);
       least = λ other fits less.
@@ -134,7 +134,7 @@ pair_found test pairs up key (Some p) is e =
 
 -- of pairs
 pub least_of_pairs : (test : List ℕ → Bool) (pairs : List KeyValue) → IsAscending pairs → (key : List ℕ)
-    → (option_map (λ p. p.0) (find (λ p. test p.0) pairs) ≡ Some key) ↔ IsLeast (λ k. (holds pairs k ≡ true) × (test k ≡ true)) key
+    → (option_map (λ p. p.0) (find (λ p. test p.0) pairs) ≡ Some key) ↔ IsLeastKey (λ k. (holds pairs k ≡ true) × (test k ≡ true)) key
 least_of_pairs test pairs up key = (
   λ e. pair_found test pairs up key (find (λ p. test p.0) pairs) refl e,
   λ h.

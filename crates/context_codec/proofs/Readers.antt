@@ -14,7 +14,7 @@ use Rattle.esdk_fields.proofs.Inverse.{read_same, then_is_read}
 use Rattle.esdk_fields.proofs.Taken.{IsTaken, IsTaken-then, number16_taken}
 use Rattle.esdk_fields.proofs.Sized.{sized_taken}
 use Rattle.context_codec.specs.Context.{KeyValue, pair_text, pairs_text}
-use Rattle.context_codec.specs.Split.{pair, counted, whole, split}
+use Rattle.context_codec.specs.Split.{pair, counted_pairs, whole, split}
 use Rattle.context_codec.specs.Spelling.{IsSpelling}
 
 pair_taken : (p : Place) (x : KeyValue) (next : Place) → AreBytes p.left → pair p ≡ Read x next → IsTaken p (pair_text x) next
@@ -46,8 +46,8 @@ repeat_taken (suc n) p xs next fits e =
     subst (λ (q : Place). IsTaken p (flat_map pair_text xs) q × (length xs ≡ suc n)) same.1
     (subst (λ (ys : List KeyValue). IsTaken p (flat_map pair_text ys) b.next × (length ys ≡ suc n)) same.0 made)
 
-counted_taken : (p : Place) (xs : List KeyValue) (next : Place) → AreBytes p.left → counted p ≡ Read xs next → IsTaken p (pairs_text xs) next
-unfolding counted pairs_text
+counted_taken : (p : Place) (xs : List KeyValue) (next : Place) → AreBytes p.left → counted_pairs p ≡ Read xs next → IsTaken p (pairs_text xs) next
+unfolding counted_pairs pairs_text
 counted_taken p xs next fits e =
     let t = then_is_read (number w16 p) (repeat pair) xs next e in
     let first = number16_taken p t.value t.next fits t.first in
@@ -76,6 +76,6 @@ pub split_spelled : (b : List ℕ) (xs : List KeyValue) → AreBytes b → split
 unfolding split
 split_spelled [] xs fits e = inr (refl, cc)
 split_spelled (b ∷ bs) xs fits e =
-    let w = whole_read (counted (start (b ∷ bs))) xs e in
+    let w = whole_read (counted_pairs (start (b ∷ bs))) xs e in
     let t = counted_taken (start (b ∷ bs)) xs w.next fits w.is in
     inl (t.front ∙ ap (λ (x : List ℕ). pairs_text xs ++ x) w.none ∙ append-nil (pairs_text xs))

@@ -7,7 +7,7 @@ use Rattle.std.proofs.lemmas.List.Elements.{Contains-append_left, Contains-appen
 use Rattle.std.proofs.lemmas.List.Sorted.{Contains-permutation, IsPermutation-sym}
 use Rattle.context_codec.specs.Context.{KeyValue, IsAscending}
 use Rattle.context_codec.specs.Parts.{holds, only_given, whole_of}
-use Rattle.context_codec.specs.Laws.{IsWhole}
+use Rattle.context_codec.specs.Laws.{IsWholeContext}
 use Rattle.context_codec.proofs.Keys.{ascends_from, ascending_from}
 use Rattle.context_codec.proofs.Distinct.{distinct_from_ascends}
 use Rattle.context_codec.proofs.Members.{Contains-filter, Contains-filter_back}
@@ -15,7 +15,7 @@ use Rattle.context_codec.proofs.Parts.{Ascends-filter, only_given_new}
 use Rattle.context_codec.proofs.Stored.{Ascends-joined, joined_permutes}
 
 -- the whole ascends, and holds the stored pairs and the given ones that aren't stored
-pub whole_is : (stored given : List KeyValue) → IsAscending stored → IsAscending given → IsWhole stored given (whole_of stored given)
+pub whole_is : (stored given : List KeyValue) → IsAscending stored → IsAscending given → IsWholeContext stored given (whole_of stored given)
 whole_is stored given up up' =
     let only = only_given stored given in
     let made = whole_of stored given in

@@ -11,7 +11,7 @@ use Rattle.esdk_fields.proofs.Again.{number16_again, ReadsBack, repeat_again}
 use Rattle.esdk_fields.proofs.Sized.{sized_again}
 use Rattle.context_codec.specs.Context.{KeyValue, pair_text, pairs_text, ctx_text, IsContext}
 use Rattle.context_codec.specs.Fitting.{IsSized, AreSized}
-use Rattle.context_codec.specs.Split.{pair, counted, whole, split, SpellsContext}
+use Rattle.context_codec.specs.Split.{pair, counted_pairs, whole, split, SpellsContext}
 use Rattle.context_codec.proofs.Sizes.{length-pairs_text, sized_from_short, few_from_short}
 
 pair_again : (p : KeyValue) → IsSized p → ReadsBack pair pair_text p
@@ -30,14 +30,14 @@ pairs_again : (ps : List KeyValue) → AllByRecursion IsSized ps → AllByRecurs
 pairs_again [] fits = tt
 pairs_again (p ∷ ps) fits = (pair_again p fits.0, pairs_again ps fits.1)
 
-counted_again : (ps : List KeyValue) → AreSized ps → length ps < 65536 → counted (start (pairs_text ps)) ≡ Read ps (record { at = 2 + length (flat_map pair_text ps); left = [] })
-unfolding counted pairs_text
+counted_again : (ps : List KeyValue) → AreSized ps → length ps < 65536 → counted_pairs (start (pairs_text ps)) ≡ Read ps (record { at = 2 + length (flat_map pair_text ps); left = [] })
+unfolding counted_pairs pairs_text
 counted_again ps fits few =
     ap (λ r. then_read r (repeat pair)) (number16_again (length ps) (flat_map pair_text ps) 0 few)
     ∙ ap (λ (b : List ℕ). repeat pair (length ps) (record { at = 2; left = b })) (sym (append-nil (flat_map pair_text ps)))
     ∙ repeat_again pair pair_text ps [] 2 (pairs_again ps (recursion_from_All IsSized ps fits))
 
-split_some : (b : List ℕ) → 1 ≤ length b → split b ≡ whole (counted (start b))
+split_some : (b : List ℕ) → 1 ≤ length b → split b ≡ whole (counted_pairs (start b))
 unfolding split
 split_some [] h = absurd (omega arith)
 split_some (x ∷ b) h = refl

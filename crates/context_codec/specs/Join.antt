@@ -1,7 +1,8 @@
 -- The pairs that a header stores and those that a caller gives, joined into the whole context. AWS
 -- Encryption SDK Specification, "Default CMM", Decrypt Materials; "Structures", Encryption Context.
 -- The faults M12 and M14 are this library's.
-use Rattle.std.specs.Prelude.{◌≡◌, ℕ, Bool, false, not, List, length, Option, Some, None, option_map, find, nat_lt, if◌then◌else◌}
+use Rattle.std.specs.Prelude.{◌≡◌, ℕ, Bool, false, not, List, length, Option, Some, None}
+use Rattle.std.specs.Prelude.{option_map, find, nat_lt, if◌then◌else◌}
 use Rattle.std.specs.Map.{lookup}
 use Rattle.std.specs.Option.{option_or}
 use Rattle.std.specs.Str.{bytes_eq}

@@ -1,5 +1,6 @@
 -- What the laws of this crate say of contexts and the bytes that spell them.
-use Rattle.std.specs.Prelude.{◌≡◌, ◌↔◌, ◌⊎◌, ℕ, ◌≤◌, Bool, true, false, List, [], length, Some, None, Contains, find, option_map}
+use Rattle.std.specs.Prelude.{◌≡◌, ◌↔◌, ◌⊎◌, ℕ, ◌≤◌, Bool, true, false, List, [], length, Some}
+use Rattle.std.specs.Prelude.{None, Contains, find, option_map}
 use Rattle.std.specs.Ordering.{nat_cmp}
 use Rattle.std.specs.declared.cmp.Ordering.TheVariants.{Less}
 use Rattle.std.specs.Cmp.Lexicographic.{slice_cmp}
@@ -62,8 +63,9 @@ RefusesDuplicates = (bytes : List ℕ) → IsField bytes
     × (¬ (AreDistinct pairs)))
 
 -- The text of a context spells it.
-abbrev pub ReadsBack : Type 0
-ReadsBack = (context : List KeyValue) → IsContext context → SpellsContext (ctx_text context) context
+abbrev pub ContextReadsBack : Type 0
+ContextReadsBack =
+    (context : List KeyValue) → IsContext context → SpellsContext (ctx_text context) context
 
 -- A set with one more key holds that key and the others, and no more.
 abbrev pub HoldsOneMoreKey : Type 0
@@ -81,7 +83,7 @@ KeepsAscendingKeys = (keys : List (List ℕ)) → AreAscendingKeys keys → with
 
 -- The keys ascend, and the pairs are the stored ones and those of the given ones whose keys are not
 -- stored.
-pub record IsWhole (stored given whole : List KeyValue) : Type 0 where
+pub record IsWholeContext (stored given whole : List KeyValue) : Type 0 where
   pub ascending : IsAscending whole
   pub pairs : (p : KeyValue) → Contains whole p
       ↔ (Contains stored p ⊎ (Contains given p × (holds stored p.0 ≡ false)))
@@ -89,10 +91,10 @@ pub record IsWhole (stored given whole : List KeyValue) : Type 0 where
 -- Stored and given pairs are joined to just that.
 abbrev pub JoinsPairs : Type 0
 JoinsPairs = (stored given : List KeyValue) → IsAscending stored → IsAscending given
-    → IsWhole stored given (whole_of stored given)
+    → IsWholeContext stored given (whole_of stored given)
 
 -- The key fits, and no key below it does.
-pub record IsLeast (Fits : List ℕ → Type 0) (key : List ℕ) : Type 0 where
+pub record IsLeastKey (Fits : List ℕ → Type 0) (key : List ℕ) : Type 0 where
   pub fits : Fits key
   pub least : (other : List ℕ) → Fits other → ¬ (slice_cmp nat_cmp other key ≡ Less)
 
@@ -100,11 +102,11 @@ pub record IsLeast (Fits : List ℕ → Type 0) (key : List ℕ) : Type 0 where
 abbrev pub FindsTheLeastKey : Type 0
 FindsTheLeastKey = (test : List ℕ → Bool) (keys : List (List ℕ)) → AreAscendingKeys keys
     → (key : List ℕ)
-    → (find test keys ≡ Some key) ↔ IsLeast (λ k. Contains keys k × (test k ≡ true)) key
+    → (find test keys ≡ Some key) ↔ IsLeastKey (λ k. Contains keys k × (test k ≡ true)) key
 
 -- So is the key of the first pair of a context whose key passes it.
 abbrev pub FindsThePairOfTheLeastKey : Type 0
 FindsThePairOfTheLeastKey = (test : List ℕ → Bool) (pairs : List KeyValue) → IsAscending pairs
     → (key : List ℕ)
     → (option_map (λ p. p.0) (find (λ p. test p.0) pairs) ≡ Some key)
-    ↔ IsLeast (λ k. (holds pairs k ≡ true) × (test k ≡ true)) key
+    ↔ IsLeastKey (λ k. (holds pairs k ≡ true) × (test k ≡ true)) key

@@ -1,25 +1,27 @@
 -- Reading the text of a context: AWS Encryption SDK Specification, "Message Header", AAD, Key Value
 -- Pairs.
-use Rattle.std.specs.Prelude.{◌≡◌, ℕ, Bool, true, not, List, [], ◌∷◌, length, Option, Some, None, ◌==◌, if◌then◌else◌, count_by}
+use Rattle.std.specs.Prelude.{◌≡◌, ℕ, Bool, true, not, List, [], ◌∷◌, length, Option, Some, None}
+use Rattle.std.specs.Prelude.{◌==◌, if◌then◌else◌, count_by}
 use Rattle.std.specs.List.{list_all}
 use Rattle.std.specs.List.Sorted.{IsPermutation}
 use Rattle.std.specs.Int.{w16}
 use Rattle.esdk_fields.specs.declared.faults.ContextFault.{ContextFault}
 use Rattle.esdk_fields.specs.declared.faults.ContextFault.TheVariants.{Length, Utf8, Duplicate}
 use Rattle.esdk_fields.specs.Place.{start}
-use Rattle.esdk_fields.specs.Reading.{Reading, Read, Refused, Wanting, Reader, ◌>>=◌, done, number, repeat}
+use Rattle.esdk_fields.specs.Reading.{Reading, Read, Refused, Wanting, FieldReader, ◌>>=◌, done}
+use Rattle.esdk_fields.specs.Reading.{number, repeat}
 use Rattle.esdk_fields.specs.Sized.{sized_bytes}
 use Rattle.context_codec.specs.Context.{KeyValue, are_texts, has_key, IsAscending}
 
-unfoldable pub pair : Reader KeyValue
+unfoldable pub pair : FieldReader KeyValue
 pair = do
   key ← sized_bytes
   value ← sized_bytes
   done (key, value)
 
 -- two bytes of count, and that many pairs
-unfoldable pub counted : Reader (List KeyValue)
-counted = do
+unfoldable pub counted_pairs : FieldReader (List KeyValue)
+counted_pairs = do
   n ← number w16
   repeat pair n
 
@@ -32,7 +34,7 @@ whole Wanting = None
 -- The pairs that the bytes spell, in the order in which they stand there. No bytes are no pairs.
 unfoldable pub split : List ℕ → Option (List KeyValue)
 split [] = Some []
-split (b ∷ bs) = whole (counted (start (b ∷ bs)))
+split (b ∷ bs) = whole (counted_pairs (start (b ∷ bs)))
 
 -- each key stands once
 abbrev pub keys_once : List KeyValue → Bool

@@ -1,6 +1,7 @@
 //! Contexts, and what is asked of them.
 
-ghost use Rattle.std.specs.Prelude.{◌≡◌, ◌≢◌, ◌↔◌, not, [], length, All, IsNone, IfOk, find, option_map};
+ghost use Rattle.std.specs.Prelude.{◌≡◌, ◌≢◌, ◌↔◌, not, [], length, All, IsNone, IfOk, find};
+ghost use Rattle.std.specs.Prelude.{option_map};
 ghost use Rattle.std.specs.Map.{lookup};
 ghost use Rattle.std.specs.Str.{bytes_eq};
 ghost use Rattle.context_codec.specs.Context.{IsAscending, IsContext, ctx_text};

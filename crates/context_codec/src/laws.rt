@@ -1,7 +1,12 @@
 //! The laws of contexts, of the bytes that spell them and of key sets, each a function with an
 //! empty body whose contract is the law.
 
-ghost use Rattle.context_codec.specs.Laws.{SplitsSpellings, ReadsSpelledContexts, SpellsSomeContext, SpellsOneContext, TakesTexts, RefusesOtherBytes, RefusesOtherTexts, RefusesDuplicates, ReadsBack, HoldsOneMoreKey, AscendsWithOneMoreKey, KeepsAscendingKeys, JoinsPairs, FindsTheLeastKey, FindsThePairOfTheLeastKey};
+ghost use Rattle.context_codec.specs.Laws.{SplitsSpellings, ReadsSpelledContexts};
+ghost use Rattle.context_codec.specs.Laws.{SpellsSomeContext, SpellsOneContext, TakesTexts};
+ghost use Rattle.context_codec.specs.Laws.{RefusesOtherBytes, RefusesOtherTexts, RefusesDuplicates};
+ghost use Rattle.context_codec.specs.Laws.{ContextReadsBack, HoldsOneMoreKey};
+ghost use Rattle.context_codec.specs.Laws.{AscendsWithOneMoreKey, KeepsAscendingKeys, JoinsPairs};
+ghost use Rattle.context_codec.specs.Laws.{FindsTheLeastKey, FindsThePairOfTheLeastKey};
 
 /// The reader splits bytes into pairs exactly where the bytes are the spelling of these pairs: the
 /// count and the pairs one after another.
@@ -49,7 +54,7 @@ pub fn duplicate_keys_are_refused()
 
 /// The text of a context spells it.
 pub fn written_contexts_are_read()
-    ensures { ReadsBack }
+    ensures { ContextReadsBack }
 {}
 
 /// A key set with one more key holds that key and the others, and no more.

@@ -3,7 +3,7 @@
 ghost use Rattle.std.specs.Prelude.{IfOk};
 ghost use Rattle.esdk_fields.specs.Reading.{repeat};
 ghost use Rattle.esdk_fields.specs.Gives.{Gives};
-ghost use Rattle.context_codec.specs.Split.{pair, counted, split};
+ghost use Rattle.context_codec.specs.Split.{pair, counted_pairs, split};
 ghost use Rattle.context_codec.specs.Found.{FindsPairs};
 
 use crate::raw::RawPair;
@@ -32,9 +32,9 @@ pub(crate) fn split_of(alloc: Global, bytes: &[u8]) -> Result<Option<Vec<RawPair
 }
 
 /// Reads a count of two bytes and that many pairs.
-#[tactic(auto, unfolding(crate::specs::Split::counted))]
+#[tactic(auto, unfolding(crate::specs::Split::counted_pairs))]
 fn counted_of<'a>(alloc: Global, cursor: &mut Cursor<'a>) -> Result<Vec<RawPair<'a>>, Stop>
-    ensures { Gives (λ pairs. pairs.items) result cursor.new (counted cursor.old) }
+    ensures { Gives (λ pairs. pairs.items) result cursor.new (counted_pairs cursor.old) }
 {
     let count = u16_of(cursor)?;
     pairs_of(alloc, cursor, count)

@@ -14,9 +14,9 @@ use Rattle.desk_core.specs.declared.session.Session.{Session}
 use Rattle.desk_core.specs.declared.live_sessions.Desk.{Desk}
 use Rattle.desk_core.specs.declared.live_sessions.Lent.{Lent}
 use Rattle.desk_core.specs.declared.live_sessions.Lent.TheVariants as lents
-use Rattle.desk_core.specs.Session.{SessionValue, Turn, answered, out_of, ended, dropped, finish_answer, finished}
+use Rattle.desk_core.specs.Session.{SessionValue, Turn, answered, session_out, ended, dropped, desk_finish_answer, desk_finished}
 use Rattle.desk_core.specs.Desk.{DeskValue, after_turn}
-use Rattle.desk_core.specs.Stands.{StandsFor, IsLive, StandsAt, AreLive, machine_at, Lends, Stands}
+use Rattle.desk_core.specs.Stands.{StandsFor, IsLive, StandsAtNumber, AreLive, machine_at, Lends, Stands}
 use Rattle.desk_core.proofs.Live.{answered_is, are_live_after}
 
 -- ---- numbers
@@ -59,7 +59,7 @@ dead_at sessions live id alive none = by (live id) refl
     by : (o : Option SessionValue) → live id ≡ o → live id ≡ None
     by None e = e
     by (Some s) e =
-        absurd (subst (λ (p : Option (Box Session)). StandsAt (option_map box_value p) (Some s)) (sym none) (subst (λ (o : Option SessionValue). StandsAt (machine_at sessions id) o) e (alive id)))
+        absurd (subst (λ (p : Option (Box Session)). StandsAtNumber (option_map box_value p) (Some s)) (sym none) (subst (λ (o : Option SessionValue). StandsAtNumber (machine_at sessions id) o) e (alive id)))
 
 -- The machine of this number stands for its session.
 pub record LiveAt (live : ℕ → Option SessionValue) (id : ℕ) (machine : Box Session) : Type 0 where
@@ -71,8 +71,8 @@ pub record LiveAt (live : ℕ → Option SessionValue) (id : ℕ) (machine : Box
 pub live_at : (sessions : BTreeMap ℕ (Box Session)) (live : ℕ → Option SessionValue) (id : ℕ) (machine : Box Session) → AreLive sessions live → Some machine ≡ get nat_cmp sessions id → LiveAt live id machine
 live_at sessions live id machine alive there = by (live id) refl
   where
-    at : (o : Option SessionValue) → live id ≡ o → StandsAt (Some machine.value) o
-    at o e = subst (λ (p : Option (Box Session)). StandsAt (option_map box_value p) o) (sym there) (subst (λ (p : Option SessionValue). StandsAt (machine_at sessions id) p) e (alive id))
+    at : (o : Option SessionValue) → live id ≡ o → StandsAtNumber (Some machine.value) o
+    at o e = subst (λ (p : Option (Box Session)). StandsAtNumber (option_map box_value p) o) (sym there) (subst (λ (p : Option SessionValue). StandsAtNumber (machine_at sessions id) p) e (alive id))
 
     by : (o : Option SessionValue) → live id ≡ o → LiveAt live id machine
     by None e = absurd (at None e)
@@ -99,10 +99,10 @@ ends_none next v id above alive last journal lent none = record {
 }
 
 pub ends_err : {M : Type 0} (next : Desk M) (v : DeskValue) (id : ℕ) (machine : Box Session) (error : DeskError) → NoneAbove v.live v.last → AreLive next.sessions (update nat_eq v.live id None)
-    → next.last_id ≡ v.last → next.journal.items ≡ v.journal → next.lent ≡ lents.Nothing → (at : LiveAt v.live id machine) → finish_answer at.session ≡ Err error → EndsTurn v id (Err error) next
+    → next.last_id ≡ v.last → next.journal.items ≡ v.journal → next.lent ≡ lents.Nothing → (at : LiveAt v.live id machine) → desk_finish_answer at.session ≡ Err error → EndsTurn v id (Err error) next
 ends_err next v id machine error above alive last journal lent at fails =
     let s : SessionValue = at.session in
-    let turn : Result (Unit {0}) DeskError → Turn (Unit {0}) = λ r. answered r (finished s) None in
+    let turn : Result (Unit {0}) DeskError → Turn (Unit {0}) = λ r. answered r (desk_finished s) None in
     record {
       answer = sym (ap (λ (o : Option SessionValue). (ended o).answer) at.there ∙ ap (λ (r : Result (Unit {0}) DeskError). (turn r).answer) fails);
       stands = stands_quiet next v id [] (ended (v.live id)) (ap (λ (o : Option SessionValue). (ended o).left) at.there ∙ ap (λ (r : Result (Unit {0}) DeskError). (turn r).left) fails)
@@ -110,24 +110,24 @@ ends_err next v id machine error above alive last journal lent at fails =
     }
 
 pub ends_ok : {M : Type 0} (next : Desk M) (v : DeskValue) (id : ℕ) (machine then : Box Session) → NoneAbove v.live v.last → AreLive next.sessions (update nat_eq v.live id None)
-    → next.last_id ≡ v.last → next.journal.items ≡ v.journal → next.lent ≡ lents.Ended then → (at : LiveAt v.live id machine) → finish_answer at.session ≡ Ok tt
-    → StandsFor then.value (finished at.session) → EndsTurn v id (Ok tt) next
+    → next.last_id ≡ v.last → next.journal.items ≡ v.journal → next.lent ≡ lents.Ended then → (at : LiveAt v.live id machine) → desk_finish_answer at.session ≡ Ok tt
+    → StandsFor then.value (desk_finished at.session) → EndsTurn v id (Ok tt) next
 ends_ok next v id machine then above alive last journal lent at goes stands =
     let s : SessionValue = at.session in
-    let turn : Result (Unit {0}) DeskError → Turn (Unit {0}) = λ r. answered r (finished s) None in
+    let turn : Result (Unit {0}) DeskError → Turn (Unit {0}) = λ r. answered r (desk_finished s) None in
     record {
       answer = sym (ap (λ (o : Option SessionValue). (ended o).answer) at.there ∙ ap (λ (r : Result (Unit {0}) DeskError). (turn r).answer) goes);
-      stands = stands_turn next v id [] (ended (v.live id)) None (out_of (finished s))
+      stands = stands_turn next v id [] (ended (v.live id)) None (session_out (desk_finished s))
           (ap (λ (o : Option SessionValue). (ended o).left) at.there ∙ ap (λ (r : Result (Unit {0}) DeskError). (turn r).left) goes)
           (ap (λ (o : Option SessionValue). (ended o).out) at.there ∙ ap (λ (r : Result (Unit {0}) DeskError). (turn r).out) goes) above (λ h. refl) alive last (journal ∙ sym (append-nil v.journal))
-          (subst (λ (l : Lent). Lends l (update nat_eq v.live id None) (out_of (finished s))) (sym lent) (finished s, stands, refl));
+          (subst (λ (l : Lent). Lends l (update nat_eq v.live id None) (session_out (desk_finished s))) (sym lent) (desk_finished s, stands, refl));
     }
 
 -- the answer alone
-pub ends_answer : (v : DeskValue) (id : ℕ) (machine : Box Session) (result : Result (Unit {0}) DeskError) → (at : LiveAt v.live id machine) → finish_answer at.session ≡ result
+pub ends_answer : (v : DeskValue) (id : ℕ) (machine : Box Session) (result : Result (Unit {0}) DeskError) → (at : LiveAt v.live id machine) → desk_finish_answer at.session ≡ result
     → result ≡ (ended (v.live id)).answer
 ends_answer v id machine result at is =
-    sym (ap (λ (o : Option SessionValue). (ended o).answer) at.there ∙ answered_is (finish_answer at.session) (finished at.session) None ∙ is)
+    sym (ap (λ (o : Option SessionValue). (ended o).answer) at.there ∙ answered_is (desk_finish_answer at.session) (desk_finished at.session) None ∙ is)
 
 -- ---- a session that is dropped
 

@@ -27,7 +27,7 @@ use Rattle.desk_core.specs.declared.session.Session.TheVariants as machines
 use Rattle.desk_core.specs.Session.{SessionValue, Opening, open_answer, opener_answer}
 use Rattle.desk_core.specs.Desk.{lines_of, open_lines}
 use Rattle.desk_core.specs.Stands.{IsLive, work_in}
-use Rattle.desk_core.specs.Steps.{Steps, StepsOpener}
+use Rattle.desk_core.specs.Steps.{DeskSteps, StepsOpener}
 
 -- ---- while the header isn't unlocked
 
@@ -92,13 +92,13 @@ heard_so manager now given asked r Failed h = h
 
 -- ---- what is left
 
-pub still_live : (v : OpeningValue) (piece : List ℕ) (heard : Heard) (n : ℕ) → IsLive (Opening v) → IsLive (Opening (open_session.stepped v piece heard (Ok n)))
+pub still_live : (v : OpeningValue) (piece : List ℕ) (heard : Heard) (n : ℕ) → IsLive (Opening v) → IsLive (Opening (open_session.opening_stepped v piece heard (Ok n)))
 still_live v piece Nothing n live = live
 still_live v piece (Found materials) n live = (live.0, λ e. absurd (cc))
 still_live v piece (Named fault) n live = (live.0, λ e. absurd (cc))
 still_live v piece Failed n live = live
 
-live_left : (v : OpeningValue) (piece : List ℕ) (heard : Heard) (r : Result ℕ OpenError) → IsLive (Opening v) → IfOk (open_answer r) (λ _. IsLive (Opening (open_session.stepped v piece heard r)))
+live_left : (v : OpeningValue) (piece : List ℕ) (heard : Heard) (r : Result ℕ OpenError) → IsLive (Opening v) → IfOk (open_answer r) (λ _. IsLive (Opening (open_session.opening_stepped v piece heard r)))
 live_left v piece heard (Ok n) live = still_live v piece heard n live
 live_left v piece heard (Err error) live = tt
 
@@ -108,7 +108,7 @@ ok_if P (Err error) h = tt
 
 -- ---- the journal
 
-pub served_then : (v : OpeningValue) (piece : List ℕ) (heard : Heard) (r : Result ℕ OpenError) → v.served ≡ None → (open_session.stepped v piece heard r).served ≡ served_in heard
+pub served_then : (v : OpeningValue) (piece : List ℕ) (heard : Heard) (r : Result ℕ OpenError) → v.served ≡ None → (open_session.opening_stepped v piece heard r).served ≡ served_in heard
 served_then v piece Nothing (Ok n) none = none
 served_then v piece Nothing (Err error) none = none
 served_then v piece (Found materials) (Ok n) none = refl
@@ -128,7 +128,7 @@ unserved manager now given asked short Failed none h = refl
 -- ---- the step
 
 pub steps_of : (m n : ManagerNow) (v : OpeningValue) (id now : ℕ) (piece : List ℕ) (result : Result ℕ DeskError) (opener : Opener) (before after : List JournalLine) → IsLive (Opening v)
-    → (step : StepsOpener m n now v piece result opener) → after ≡ before ++ open_lines id now step.steps.heard → Steps m n (Opening v) id now piece result (machines.Opening opener) before after
+    → (step : StepsOpener m n now v piece result opener) → after ≡ before ++ open_lines id now step.steps.heard → DeskSteps m n (Opening v) id now piece result (machines.Opening opener) before after
 steps_of m n v id now piece result opener before after live step journal =
     let own = own_answer v piece step.steps.heard step.own step.steps.answers in
     record {
@@ -138,23 +138,23 @@ steps_of m n v id now piece result opener before after live step journal =
       bears = step.steps.bears;
       journal = journal;
       answer = step.answer ∙ ap open_answer (sym own);
-      stands = ok_if _ result (subst (λ (r : Result ℕ OpenError). open_stands.Stands opener (open_session.stepped v piece step.steps.heard r)) (sym own) step.steps.stands);
-      live = subst (λ (r : Result ℕ DeskError). IfOk r (λ _. IsLive (Opening (open_session.stepped v piece step.steps.heard (opener_answer v piece step.steps.heard (is_memory step.own)))))) (sym step.answer)
-          (subst (λ (r : Result ℕ OpenError). IfOk (open_answer step.own) (λ _. IsLive (Opening (open_session.stepped v piece step.steps.heard r)))) (sym own) (live_left v piece step.steps.heard step.own live));
+      stands = ok_if _ result (subst (λ (r : Result ℕ OpenError). open_stands.Stands opener (open_session.opening_stepped v piece step.steps.heard r)) (sym own) step.steps.stands);
+      live = subst (λ (r : Result ℕ DeskError). IfOk r (λ _. IsLive (Opening (open_session.opening_stepped v piece step.steps.heard (opener_answer v piece step.steps.heard (is_memory step.own)))))) (sym step.answer)
+          (subst (λ (r : Result ℕ OpenError). IfOk (open_answer step.own) (λ _. IsLive (Opening (open_session.opening_stepped v piece step.steps.heard r)))) (sym own) (live_left v piece step.steps.heard step.own live));
     }
 
 -- what is heard is recorded, by how the materials were served that the opener keeps
 pub steps_locked : (m n : ManagerNow) (v : OpeningValue) (id now : ℕ) (piece : List ℕ) (result : Result ℕ DeskError) (opener : Opener) (before after : List JournalLine) → IsLive (Opening v)
     → v.served ≡ None → StepsOpener m n now v piece result opener
-    → ((w : OpeningValue) → open_stands.Stands opener w → after ≡ before ++ lines_of id Unseal now None w.served) → Steps m n (Opening v) id now piece result (machines.Opening opener) before after
+    → ((w : OpeningValue) → open_stands.Stands opener w → after ≡ before ++ lines_of id Unseal now None w.served) → DeskSteps m n (Opening v) id now piece result (machines.Opening opener) before after
 steps_locked m n v id now piece result opener before after live none step recorded =
     let heard = step.steps.heard in
     steps_of m n v id now piece result opener before after live step
-    (subst (λ (o : Option Served). after ≡ before ++ lines_of id Unseal now None o) (served_then v piece heard step.own none) (recorded (open_session.stepped v piece heard step.own) step.steps.stands))
+    (subst (λ (o : Option Served). after ≡ before ++ lines_of id Unseal now None o) (served_then v piece heard step.own none) (recorded (open_session.opening_stepped v piece heard step.own) step.steps.stands))
 
 -- once the header is unlocked, nothing is
 pub steps_unlocked : (m n : ManagerNow) (v : OpeningValue) (id now : ℕ) (piece : List ℕ) (result : Result ℕ DeskError) (opener : Opener) (lines : List JournalLine) (context : List KeyValue)
-    → IsLive (Opening v) → whole_context v ≡ Some context → StepsOpener m n now v piece result opener → Steps m n (Opening v) id now piece result (machines.Opening opener) lines lines
+    → IsLive (Opening v) → whole_context v ≡ Some context → StepsOpener m n now v piece result opener → DeskSteps m n (Opening v) id now piece result (machines.Opening opener) lines lines
 steps_unlocked m n v id now piece result opener lines context live unlocked step =
     let heard = step.steps.heard in
     let none = unserved (said_last m n) now v.given (asked_header v piece) (step.own ≡ Err opens.Memory) heard (unlocked_asks v piece context unlocked) step.steps.hears in
@@ -163,7 +163,7 @@ steps_unlocked m n v id now piece result opener lines context live unlocked step
 
 -- there is no memory for the line
 pub steps_short : (m n : ManagerNow) (v : OpeningValue) (id now : ℕ) (piece : List ℕ) (opener : Opener) (before after : List JournalLine) → IsLockedStill v → BearsHeard m n now None → after ≡ before
-    → Steps m n (Opening v) id now piece (Err errors.Memory) (machines.Opening opener) before after
+    → DeskSteps m n (Opening v) id now piece (Err errors.Memory) (machines.Opening opener) before after
 steps_short m n v id now piece opener before after still bears same = record {
   heard = Nothing;
   short = true;
@@ -176,7 +176,7 @@ steps_short m n v id now piece opener before after still bears same = record {
 }
 
 -- a piece that isn't empty is used
-pub uses_some : (m n : ManagerNow) (now : ℕ) (v : OpeningValue) (piece : List ℕ) (own : Result ℕ OpenError) (opener : Opener) (used : ℕ) → open_stands.Steps m n now v piece own opener → own ≡ Ok used
+pub uses_some : (m n : ManagerNow) (now : ℕ) (v : OpeningValue) (piece : List ℕ) (own : Result ℕ OpenError) (opener : Opener) (used : ℕ) → open_stands.OpenerSteps m n now v piece own opener → own ≡ Ok used
     → 1 ≤ length piece → 1 ≤ used
 uses_some m n now v piece own opener used step is some =
     ((ends_exactly v piece step.heard).used used (subst (λ (r : Result ℕ OpenError). Answers v piece step.heard r) is step.answers)).some some
@@ -188,5 +188,5 @@ falls_opening machine opener (Err error) piece is within some = tt
 
 -- the same step, of a journal that has the same lines
 pub steps_from : (m n : ManagerNow) (s : SessionValue) (id now : ℕ) (piece : List ℕ) (result : Result ℕ DeskError) (machine : Session) (before old after : List JournalLine) → before ≡ old
-    → Steps m n s id now piece result machine before after → Steps m n s id now piece result machine old after
-steps_from m n s id now piece result machine before old after e step = subst (λ (l : List JournalLine). Steps m n s id now piece result machine l after) e step
+    → DeskSteps m n s id now piece result machine before after → DeskSteps m n s id now piece result machine old after
+steps_from m n s id now piece result machine before old after e step = subst (λ (l : List JournalLine). DeskSteps m n s id now piece result machine l after) e step

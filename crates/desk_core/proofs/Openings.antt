@@ -19,7 +19,7 @@ use Rattle.desk_core.specs.Session.{SessionValue, Opening, Turn, Reply, NoReply,
 use Rattle.desk_core.specs.Desk.{DeskValue, after_turn, drawn, seal_lines}
 use Rattle.desk_core.specs.Calls.{IsReply, OpensOpen, OpensSeal}
 use Rattle.desk_core.specs.Stands.{StandsFor, IsLive, AreLive, Lends, Stands}
-use Rattle.desk_core.specs.Beginning.{Begins}
+use Rattle.desk_core.specs.Beginning.{DeskBegins}
 use Rattle.desk_core.proofs.Live.{are_live_same}
 use Rattle.desk_core.proofs.Desks.{NoneAbove, stands_turn}
 
@@ -43,12 +43,12 @@ none_next v above = above (v.last + 1) (omega arith)
 
 pub opens_open : {M : Type 0} (next : Desk M) (v : DeskValue) (settings : Settings) (given : List KeyValue) (result : Result ℕ DeskError) → NoneAbove v.live v.last
     → next.last_id ≡ v.last + 1 → next.journal.items ≡ v.journal → next.lent ≡ lents.Nothing → IfOk result (λ number. number ≡ v.last + 1) → IfErr result (λ error. error ≡ errors.Memory)
-    → OnOk result (AreLive next.sessions (update nat_eq v.live (v.last + 1) (Some (Opening (open_session.new_session settings given))))) → OnErr result (AreLive next.sessions v.live)
+    → OnOk result (AreLive next.sessions (update nat_eq v.live (v.last + 1) (Some (Opening (open_session.new_opening_session settings given))))) → OnErr result (AreLive next.sessions v.live)
     → OpensOpen v settings given result next
 opens_open next v settings given (Ok number) above last journal lent is memory alive same = record {
   short = false;
   answer = ap (λ (n : ℕ). Ok n) is;
-  stands = stands_drawn next v [] (open_opened settings given false (v.last + 1)) (Some (Opening (open_session.new_session settings given))) refl refl above alive last (journal ∙ sym (append-nil v.journal)) lent;
+  stands = stands_drawn next v [] (open_opened settings given false (v.last + 1)) (Some (Opening (open_session.new_opening_session settings given))) refl refl above alive last (journal ∙ sym (append-nil v.journal)) lent;
 }
 opens_open next v settings given (Err error) above last journal lent is memory alive same = record {
   short = true;
@@ -60,16 +60,16 @@ opens_open next v settings given (Err error) above last journal lent is memory a
 -- the same, by a number that is the next
 pub opens_open_at : {M : Type 0} (next : Desk M) (v : DeskValue) (settings : Settings) (given : List KeyValue) (result : Result ℕ DeskError) (id : ℕ) → id ≡ v.last + 1 → NoneAbove v.live v.last
     → next.last_id ≡ id → next.journal.items ≡ v.journal → next.lent ≡ lents.Nothing → IfOk result (λ number. number ≡ id) → IfErr result (λ error. error ≡ errors.Memory)
-    → OnOk result (AreLive next.sessions (update nat_eq v.live id (Some (Opening (open_session.new_session settings given))))) → OnErr result (AreLive next.sessions v.live)
+    → OnOk result (AreLive next.sessions (update nat_eq v.live id (Some (Opening (open_session.new_opening_session settings given))))) → OnErr result (AreLive next.sessions v.live)
     → OpensOpen v settings given result next
 opens_open_at next v settings given result id e above last journal lent is memory alive same =
     opens_open next v settings given result above (last ∙ e) journal lent (subst (λ (i : ℕ). IfOk result (λ number. number ≡ i)) e is) memory
-    (subst (λ (i : ℕ). OnOk result (AreLive next.sessions (update nat_eq v.live i (Some (Opening (open_session.new_session settings given)))))) e alive) same
+    (subst (λ (i : ℕ). OnOk result (AreLive next.sessions (update nat_eq v.live i (Some (Opening (open_session.new_opening_session settings given)))))) e alive) same
 
 -- ---- to seal a message
 
 pub opens_not : {M : Type 0} (manager : Saying) (next : Desk M) (v : DeskValue) (request : SealRequestValue) (now : ℕ) (random : List ℕ) (error : DeskError) (before : List JournalLine)
-    → Begins manager request (v.last + 1) now random (Err error) before next.journal.items → before ≡ v.journal → NoneAbove v.live v.last → next.last_id ≡ v.last + 1 → next.lent ≡ lents.Nothing
+    → DeskBegins manager request (v.last + 1) now random (Err error) before next.journal.items → before ≡ v.journal → NoneAbove v.live v.last → next.last_id ≡ v.last + 1 → next.lent ≡ lents.Nothing
     → AreLive next.sessions v.live → OpensSeal manager v request now random (Err error) next
 opens_not manager next v request now random error before begins same above last lent alive =
     let lines : List JournalLine = seal_lines (v.last + 1) now request begins.reply in
@@ -95,7 +95,7 @@ shortened manager request now random (Refuses refusal) short id number is e = ab
 shortened manager request now random Fails short id number is e = absurd (cc)
 
 pub opens_seal : {M : Type 0} (manager : Saying) (next : Desk M) (v : DeskValue) (request : SealRequestValue) (now : ℕ) (random : List ℕ) (machine : Box Session) (result : Result ℕ DeskError)
-    (before : List JournalLine) → Begins manager request (v.last + 1) now random (Ok machine) before next.journal.items → before ≡ v.journal → NoneAbove v.live v.last → next.last_id ≡ v.last + 1
+    (before : List JournalLine) → DeskBegins manager request (v.last + 1) now random (Ok machine) before next.journal.items → before ≡ v.journal → NoneAbove v.live v.last → next.last_id ≡ v.last + 1
     → next.lent ≡ lents.Nothing → IfOk result (λ number. number ≡ v.last + 1) → IfErr result (λ error. error ≡ errors.Memory)
     → ((s : SessionValue) → StandsFor machine.value s → IsLive s → OnOk result (AreLive next.sessions (update nat_eq v.live (v.last + 1) (Some s)))) → OnErr result (AreLive next.sessions v.live)
     → OpensSeal manager v request now random result next
@@ -124,11 +124,11 @@ opens_seal manager next v request now random machine (Err error) before begins s
     }
 
 pub opens_seal_at : {M : Type 0} (manager : Saying) (next : Desk M) (v : DeskValue) (request : SealRequestValue) (now : ℕ) (random : List ℕ) (machine : Box Session) (result : Result ℕ DeskError)
-    (before : List JournalLine) (id : ℕ) → id ≡ v.last + 1 → Begins manager request id now random (Ok machine) before next.journal.items → before ≡ v.journal → NoneAbove v.live v.last
+    (before : List JournalLine) (id : ℕ) → id ≡ v.last + 1 → DeskBegins manager request id now random (Ok machine) before next.journal.items → before ≡ v.journal → NoneAbove v.live v.last
     → next.last_id ≡ id → next.lent ≡ lents.Nothing → IfOk result (λ number. number ≡ id) → IfErr result (λ error. error ≡ errors.Memory)
     → ((s : SessionValue) → StandsFor machine.value s → IsLive s → OnOk result (AreLive next.sessions (update nat_eq v.live id (Some s)))) → OnErr result (AreLive next.sessions v.live)
     → OpensSeal manager v request now random result next
 opens_seal_at manager next v request now random machine result before id e begins same above last lent is memory alive err =
-    opens_seal manager next v request now random machine result before (subst (λ (i : ℕ). Begins manager request i now random (Ok machine) before next.journal.items) e begins) same above (last ∙ e) lent
+    opens_seal manager next v request now random machine result before (subst (λ (i : ℕ). DeskBegins manager request i now random (Ok machine) before next.journal.items) e begins) same above (last ∙ e) lent
     (subst (λ (i : ℕ). IfOk result (λ number. number ≡ i)) e is) memory
     (λ s stands goes. subst (λ (i : ℕ). OnOk result (AreLive next.sessions (update nat_eq v.live i (Some s)))) e (alive s stands goes)) err

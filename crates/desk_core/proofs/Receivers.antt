@@ -39,7 +39,7 @@ use Rattle.desk_core.specs.declared.live_sessions.Lent.{Lent}
 use Rattle.desk_core.specs.declared.live_sessions.Lent.TheVariants as lents
 use Rattle.desk_core.specs.Session.{SessionValue, Sealing, Opening, Turn, open_error}
 use Rattle.desk_core.specs.Desk.{DeskValue, lines_of, open_lines}
-use Rattle.desk_core.specs.Stands.{StandsFor, IsLive, StandsAt, AreLive, Lends, Stands, machine_at, manager_of}
+use Rattle.desk_core.specs.Stands.{StandsFor, IsLive, StandsAtNumber, AreLive, Lends, Stands, machine_at, manager_of}
 use Rattle.desk_core.specs.Receiving.{FeedsAt, FeedsInto, FeedsMachine, FeedsOpening, FeedsSealing, FeedsSession, SealsOn, handed_over, machine_by, open_failure, seal_failure}
 use Rattle.desk_core.proofs.Desks.{NoneAbove, stands_turn}
 use Rattle.desk_core.proofs.Live.{are_live_after}
@@ -58,7 +58,7 @@ module _ {M R E : Type 0} (state : M → ManagerNow) (takes : R → R → List �
     pub left : Option SessionValue
     pub feeding : FeedsOpening state takes fails now v piece old new before after heard left result
     pub bears : BearsHeard (state old) (state new) now (served_in heard)
-    pub stands : StandsAt (machine_by result (machines.Opening opener)) left
+    pub stands : StandsAtNumber (machine_by result (machines.Opening opener)) left
     pub session : OpeningValue
     pub worth : open_stands.Stands opener session
     pub served : session.served ≡ (keeping v heard).served
@@ -106,7 +106,7 @@ module _ {M R E : Type 0} (state : M → ManagerNow) (takes : R → R → List �
   }
 
   opener_named : (now : ℕ) (v : OpeningValue) (piece : List ℕ) (old new : M) (before after : R) (opener : Opener) (error : FeedError OpenError E) → IsLive (Opening v)
-      → opening.FeedsPiece {T = Unit {0}} state takes fails now v piece old new before after opener (Err error) → OpenerFed now v piece old new before after (Err (open_failure error)) opener
+      → opening.FeedsOpenerPiece {T = Unit {0}} state takes fails now v piece old new before after opener (Err error) → OpenerFed now v piece old new before after (Err (open_failure error)) opener
   opener_named now v piece old new before after opener (feeds.Receiver error) live until =
       let fed = until.fed in
       let front : List ℕ = take until.count piece in
@@ -128,7 +128,7 @@ module _ {M R E : Type 0} (state : M → ManagerNow) (takes : R → R → List �
   opener_named now v piece old new before after opener (feeds.Machine opens.Stopped) live stays = absurd (let no : true ≡ false = sym stays.off ∙ live.0 in cc)
 
   pub opener_err : (now : ℕ) (v : OpeningValue) (piece : List ℕ) (old new : M) (before after : R) (opener : Opener) (error : FeedError OpenError E) (named : FeedError DeskError E) → named ≡ open_failure error
-      → IsLive (Opening v) → opening.FeedsPiece {T = Unit {0}} state takes fails now v piece old new before after opener (Err error) → OpenerFed now v piece old new before after (Err named) opener
+      → IsLive (Opening v) → opening.FeedsOpenerPiece {T = Unit {0}} state takes fails now v piece old new before after opener (Err error) → OpenerFed now v piece old new before after (Err named) opener
   opener_err now v piece old new before after opener error named is live fed =
       subst (λ (e : FeedError DeskError E). OpenerFed now v piece old new before after (Err e) opener) (sym is) (opener_named now v piece old new before after opener error live fed)
 
@@ -197,7 +197,7 @@ module _ {M R E : Type 0} (state : M → ManagerNow) (takes : R → R → List �
   -- ---- a session that seals
 
   pub sealer_ok : (id now : ℕ) (v : SealingValue) (piece : List ℕ) (manager : M) (before after : R) (sealer : Sealer) (lines : List JournalLine) → seal.FeedsOn {T = Unit {0}} takes fails v piece before after sealer (Ok tt)
-      → (IsFeeding v piece → seal.FedWhole takes v piece before after sealer)
+      → (IsFeeding v piece → seal.SealerFedWhole takes v piece before after sealer)
       → FeedsMachine state takes fails (Sealing v) id now piece manager manager before after (Ok (tt {0})) (machines.Sealing sealer) lines lines
   sealer_ok id now v piece manager before after sealer lines on whole = record {
     heard = Nothing;
@@ -209,7 +209,7 @@ module _ {M R E : Type 0} (state : M → ManagerNow) (takes : R → R → List �
     live = λ e. cc;
   }
 
-  sealing_not : (v : SealingValue) (piece : List ℕ) (before after : R) (sealer : Sealer) (error : FeedError SealError E) → seal.FeedsPiece {T = Unit {0}} takes fails v piece before after sealer (Err error)
+  sealing_not : (v : SealingValue) (piece : List ℕ) (before after : R) (sealer : Sealer) (error : FeedError SealError E) → seal.FeedsSealerPiece {T = Unit {0}} takes fails v piece before after sealer (Err error)
       → FeedsSealing {T = Unit {0}} takes fails v piece before after None (Err (seal_failure error))
   sealing_not v piece before after sealer (feeds.Receiver error) until = (sealer, until, refl)
   sealing_not v piece before after sealer (feeds.Machine (seals.Refusal refusal)) short = (sealer, short, refl)
@@ -234,7 +234,7 @@ module _ {M R E : Type 0} (state : M → ManagerNow) (takes : R → R → List �
   seals_not v piece before after sealer (feeds.Machine seals.Memory) on = absurd on
 
   pub sealer_err : (id now : ℕ) (v : SealingValue) (piece : List ℕ) (manager : M) (before after : R) (sealer : Sealer) (lines : List JournalLine) (error : FeedError SealError E) (named : FeedError DeskError E)
-      → named ≡ seal_failure error → seal.FeedsOn {T = Unit {0}} takes fails v piece before after sealer (Err error) → (IsFeeding v piece → seal.FeedsPiece {T = Unit {0}} takes fails v piece before after sealer (Err error))
+      → named ≡ seal_failure error → seal.FeedsOn {T = Unit {0}} takes fails v piece before after sealer (Err error) → (IsFeeding v piece → seal.FeedsSealerPiece {T = Unit {0}} takes fails v piece before after sealer (Err error))
       → FeedsMachine {T = Unit {0}} state takes fails (Sealing v) id now piece manager manager before after (Err named) (machines.Sealing sealer) lines lines
   sealer_err id now v piece manager before after sealer lines error named is on fed = record {
     heard = Nothing;
@@ -260,8 +260,8 @@ module _ {M R E : Type 0} (state : M → ManagerNow) (takes : R → R → List �
   machine_from s id now piece old new before after result machine lines same more e fed =
       subst (λ (l : List JournalLine). FeedsMachine state takes fails s id now piece old new before after result machine l more) e fed
 
-  boxed_by : (result : Result (Unit {0}) (FeedError DeskError E)) (machine : Box Session) (left : Option SessionValue) → StandsAt (machine_by result machine.value) left
-      → StandsAt (option_map box_value (machine_by result machine)) left
+  boxed_by : (result : Result (Unit {0}) (FeedError DeskError E)) (machine : Box Session) (left : Option SessionValue) → StandsAtNumber (machine_by result machine.value) left
+      → StandsAtNumber (option_map box_value (machine_by result machine)) left
   boxed_by (Ok done) machine left stands = stands
   boxed_by (Err error) machine left stands = stands
 
@@ -277,8 +277,8 @@ module _ {M R E : Type 0} (state : M → ManagerNow) (takes : R → R → List �
       some_none : (s : SessionValue) → Some s ≡ None → ⊥
       some_none s e = cc
 
-      at : (o : Option SessionValue) → live id ≡ o → StandsAt (Some machine.value) o
-      at o e = subst (λ (p : Option (Box Session)). StandsAt (option_map box_value p) o) (sym there) (subst (λ (p : Option SessionValue). StandsAt (machine_at old id) p) e (alive id))
+      at : (o : Option SessionValue) → live id ≡ o → StandsAtNumber (Some machine.value) o
+      at o e = subst (λ (p : Option (Box Session)). StandsAtNumber (option_map box_value p) o) (sym there) (subst (λ (p : Option SessionValue). StandsAtNumber (machine_at old id) p) e (alive id))
 
       by : (o : Option SessionValue) → live id ≡ o → FeedsAt state takes fails live id now piece m n before after result new lines more
       by None e = absurd (at None e)

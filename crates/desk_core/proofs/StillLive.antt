@@ -14,12 +14,12 @@ use Rattle.stream_open.specs.declared.errors.OpenError.{OpenError}
 use Rattle.stream_open.specs.declared.errors.OpenError.TheVariants as opens
 use Rattle.stream_open.specs.Asking.{Heard, Nothing, Found, Named, Failed}
 use Rattle.stream_open.specs.Session as open_session
-use Rattle.stream_open.specs.Session.{OpeningValue, answer_at, answer_on, end_of, judged_now, judged_with, keeping, reach}
+use Rattle.stream_open.specs.Session.{OpeningValue, answer_at, answer_on, end_of_verdict, judged_now, judged_with, keeping, reach}
 use Rattle.desk_core.specs.declared.errors.DeskError.{DeskError}
 use Rattle.desk_core.specs.declared.errors.DeskError.TheVariants as errors
 use Rattle.desk_core.specs.declared.session.Session.{Session}
-use Rattle.desk_core.specs.Session.{SessionValue, Sealing, Opening, ended, fed, finish_answer, opener_answer, open_answer, seal_answer, step_answer}
-use Rattle.desk_core.specs.Stands.{IsLive, StandsAt, AreLive, machine_at}
+use Rattle.desk_core.specs.Session.{SessionValue, Sealing, Opening, ended, desk_fed, desk_finish_answer, opener_answer, open_answer, seal_answer, desk_step_answer}
+use Rattle.desk_core.specs.Stands.{IsLive, StandsAtNumber, AreLive, machine_at}
 use Rattle.desk_core.proofs.Live.{answered_is}
 
 -- ---- the machines' answers
@@ -37,7 +37,7 @@ open_named (Err opens.KeyringFault) h e = absurd (cc)
 open_named (Err opens.Stopped) h e = h refl
 open_named (Err opens.Memory) h e = absurd (cc)
 
-seal_step_named : (v : SealingValue) (piece : List ℕ) → v.stopped ≡ false → seal.step_answer v piece ≢ Err seals.Stopped
+seal_step_named : (v : SealingValue) (piece : List ℕ) → v.stopped ≡ false → seal.sealing_step_answer v piece ≢ Err seals.Stopped
 seal_step_named v piece going = λ e. let off : true ≡ false = sym (stopped_only v piece e) ∙ going in cc
 
 answer_at_named : (n : ℕ) (verdict : Verdict) → answer_at n verdict ≢ Err opens.Stopped
@@ -51,8 +51,8 @@ answer_on_named v piece (Found m) = let w = keeping v (Found m) in answer_at_nam
 answer_on_named v piece (Named fault) = let w = keeping v (Named fault) in answer_at_named (reach w piece) (judged_with w piece (reach w piece)).verdict
 answer_on_named v piece Failed = λ e. cc
 
-open_step_named : (v : OpeningValue) (piece : List ℕ) (heard : Heard) → v.stopped ≡ false → open_session.step_answer v piece heard ≢ Err opens.Stopped
-unfolding open_session.step_answer
+open_step_named : (v : OpeningValue) (piece : List ℕ) (heard : Heard) → v.stopped ≡ false → open_session.opening_step_answer v piece heard ≢ Err opens.Stopped
+unfolding open_session.opening_step_answer
 open_step_named v piece heard going =
     subst (λ (b : Bool). (if b then Err opens.Stopped else answer_on v piece heard) ≢ Err opens.Stopped) (sym going) (answer_on_named v piece heard)
 
@@ -60,28 +60,28 @@ opener_named : (short : Bool) (v : OpeningValue) (piece : List ℕ) (heard : Hea
 opener_named true v piece heard going = λ e. cc
 opener_named false v piece heard going = open_step_named v piece heard going
 
-end_of_named : (verdict : Verdict) → end_of verdict ≢ Err opens.Stopped
+end_of_named : (verdict : Verdict) → end_of_verdict verdict ≢ Err opens.Stopped
 end_of_named Going = λ e. cc
 end_of_named Whole = λ e. cc
 end_of_named (Faulty fault) = λ e. cc
 
-open_finish_named : (v : OpeningValue) → v.stopped ≡ false → open_session.finish_answer v ≢ Err opens.Stopped
-unfolding open_session.finish_answer
+open_finish_named : (v : OpeningValue) → v.stopped ≡ false → open_session.opening_finish_answer v ≢ Err opens.Stopped
+unfolding open_session.opening_finish_answer
 open_finish_named v going =
-    subst (λ (b : Bool). (if b then Err opens.Stopped else end_of (judged_now v).verdict) ≢ Err opens.Stopped) (sym going) (end_of_named (judged_now v).verdict)
+    subst (λ (b : Bool). (if b then Err opens.Stopped else end_of_verdict (judged_now v).verdict) ≢ Err opens.Stopped) (sym going) (end_of_named (judged_now v).verdict)
 
-seal_finish_named : (v : SealingValue) → v.stopped ≡ false → seal.finish_answer v ≢ Err seals.Stopped
+seal_finish_named : (v : SealingValue) → v.stopped ≡ false → seal.sealing_finish_answer v ≢ Err seals.Stopped
 seal_finish_named v going = λ e. let on = finish_on v going in cc
 
 -- ---- the desk's answers
 
-step_named : (s : SessionValue) (piece : List ℕ) (heard : Heard) (short : Bool) → IsLive s → step_answer s piece heard short ≢ Err errors.NotLive
-step_named (Sealing v) piece heard short live = seal_named (seal.step_answer v piece) (seal_step_named v piece live)
+step_named : (s : SessionValue) (piece : List ℕ) (heard : Heard) (short : Bool) → IsLive s → desk_step_answer s piece heard short ≢ Err errors.NotLive
+step_named (Sealing v) piece heard short live = seal_named (seal.sealing_step_answer v piece) (seal_step_named v piece live)
 step_named (Opening v) piece heard short live = open_named (opener_answer v piece heard short) (opener_named short v piece heard live.0)
 
-pub finish_named : (s : SessionValue) → IsLive s → finish_answer s ≢ Err errors.NotLive
-finish_named (Sealing v) live = seal_named (seal.finish_answer v) (seal_finish_named v live)
-finish_named (Opening v) live = open_named (open_session.finish_answer v) (open_finish_named v live.0)
+pub finish_named : (s : SessionValue) → IsLive s → desk_finish_answer s ≢ Err errors.NotLive
+finish_named (Sealing v) live = seal_named (seal.sealing_finish_answer v) (seal_finish_named v live)
+finish_named (Opening v) live = open_named (open_session.opening_finish_answer v) (open_finish_named v live.0)
 
 -- an answer says that a session isn't live exactly where it isn't
 not_live : {A : Type 0} (o : Option SessionValue) (answer : Option SessionValue → Result A DeskError) (result : Result A DeskError) → result ≡ answer o → answer None ≡ Err errors.NotLive
@@ -89,21 +89,21 @@ not_live : {A : Type 0} (o : Option SessionValue) (answer : Option SessionValue 
 not_live None answer result e none some = (λ h. refl, λ h. e ∙ none)
 not_live (Some s) answer result e none some = (λ h. absurd (some s refl (sym e ∙ h)), λ h. absurd (cc))
 
-live_goes : (machine : Option Session) (s : SessionValue) → StandsAt machine (Some s) → IsLive s
+live_goes : (machine : Option Session) (s : SessionValue) → StandsAtNumber machine (Some s) → IsLive s
 live_goes None s at = absurd at
 live_goes (Some m) s at = at.1
 
 goes_at : (sessions : BTreeMap ℕ (Box Session)) (live : ℕ → Option SessionValue) (id : ℕ) → AreLive sessions live → (s : SessionValue) → live id ≡ Some s → IsLive s
-goes_at sessions live id alive s e = live_goes (machine_at sessions id) s (subst (λ (o : Option SessionValue). StandsAt (machine_at sessions id) o) e (alive id))
+goes_at sessions live id alive s e = live_goes (machine_at sessions id) s (subst (λ (o : Option SessionValue). StandsAtNumber (machine_at sessions id) o) e (alive id))
 
 pub fed_not_live : (sessions : BTreeMap ℕ (Box Session)) (live : ℕ → Option SessionValue) (id : ℕ) (piece : List ℕ) (heard : Heard) (short : Bool) (result : Result ℕ DeskError) → AreLive sessions live
-    → result ≡ (fed (live id) piece heard short).answer → (result ≡ Err errors.NotLive) ↔ (live id ≡ None)
+    → result ≡ (desk_fed (live id) piece heard short).answer → (result ≡ Err errors.NotLive) ↔ (live id ≡ None)
 fed_not_live sessions live id piece heard short result alive e =
-    not_live (live id) (λ o. (fed o piece heard short).answer) result e refl
-    (λ s there h. step_named s piece heard short (goes_at sessions live id alive s there) (sym (answered_is (step_answer s piece heard short) _ _) ∙ h))
+    not_live (live id) (λ o. (desk_fed o piece heard short).answer) result e refl
+    (λ s there h. step_named s piece heard short (goes_at sessions live id alive s there) (sym (answered_is (desk_step_answer s piece heard short) _ _) ∙ h))
 
 pub ended_not_live : (sessions : BTreeMap ℕ (Box Session)) (live : ℕ → Option SessionValue) (id : ℕ) (result : Result (Unit {0}) DeskError) → AreLive sessions live
     → result ≡ (ended (live id)).answer → (result ≡ Err errors.NotLive) ↔ (live id ≡ None)
 ended_not_live sessions live id result alive e =
     not_live (live id) (λ o. (ended o).answer) result e refl
-    (λ s there h. finish_named s (goes_at sessions live id alive s there) (sym (answered_is (finish_answer s) _ _) ∙ h))
+    (λ s there h. finish_named s (goes_at sessions live id alive s there) (sym (answered_is (desk_finish_answer s) _ _) ∙ h))

@@ -5,7 +5,7 @@ use Rattle.esdk_fields.specs.declared.refusals.Refusal.{Refusal}
 use Rattle.keyring_trait.specs.declared.journal.JournalLine.{JournalLine}
 use Rattle.keyring_trait.specs.Materials.{EncMaterialsValue}
 use Rattle.keyring_trait.specs.Saying.{Saying}
-use Rattle.stream_seal.specs.Session.{new_session}
+use Rattle.stream_seal.specs.Session.{new_sealing_session}
 use Rattle.desk_core.specs.declared.errors.DeskError.{DeskError}
 use Rattle.desk_core.specs.declared.errors.DeskError.TheVariants as errors
 use Rattle.desk_core.specs.declared.session.Session.{Session}
@@ -25,20 +25,20 @@ NotBegun refusal errors.Memory = ⊤
 
 -- a session begins with these materials, in frames of this length, under this id
 abbrev pub begun_value : EncMaterialsValue → SealRequestValue → List ℕ → SessionValue
-begun_value m request id = Sealing (new_session m request.wish.declared request.size id)
+begun_value m request id = Sealing (new_sealing_session m request.wish.declared request.size id)
 
 -- the machine is that of the session that is left; or there is an error, and none is left
-abbrev pub BeginsAs : Turn ℕ → ℕ → Result (Box Session) DeskError → Type 0
-BeginsAs turn id (Ok machine) =
+abbrev pub DeskBeginsAs : Turn ℕ → ℕ → Result (Box Session) DeskError → Type 0
+DeskBeginsAs turn id (Ok machine) =
     (s : SessionValue) × (turn.answer ≡ Ok id) × (turn.left ≡ Some s) × (turn.out ≡ [])
     × StandsFor machine.value s × IsLive s
-BeginsAs turn id (Err error) = (turn.answer ≡ Err error) × (turn.left ≡ None) × (turn.out ≡ [])
+DeskBeginsAs turn id (Err error) = (turn.answer ≡ Err error) × (turn.left ≡ None) × (turn.out ≡ [])
 
 -- The manager said this, and the journal has one line more where it gave materials.
-pub record Begins (manager : Saying) (request : SealRequestValue) (id now : ℕ) (random : List ℕ)
+pub record DeskBegins (manager : Saying) (request : SealRequestValue) (id now : ℕ) (random : List ℕ)
     (result : Result (Box Session) DeskError) (before after : List JournalLine) : Type 0 where
   pub reply : Reply
   pub short : Bool
   pub replies : IsReply manager request now random short reply
   pub journal : after ≡ before ++ seal_lines id now request reply
-  pub begins : BeginsAs (seal_opened request random reply short id) id result
+  pub begins : DeskBeginsAs (seal_opened request random reply short id) id result

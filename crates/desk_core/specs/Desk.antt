@@ -1,5 +1,6 @@
 -- Many sessions side by side: what a desk is worth, and what each call makes of it.
-use Rattle.std.specs.Prelude.{ℕ, ◌+◌, List, [], ◌∷◌, ◌++◌, Bool, Option, Some, None, Result, nat_eq, filter, if◌then◌else◌}
+use Rattle.std.specs.Prelude.{ℕ, ◌+◌, List, [], ◌∷◌, ◌++◌, Bool, Option, Some, None, Result, nat_eq}
+use Rattle.std.specs.Prelude.{filter, if◌then◌else◌}
 use Rattle.std.specs.Map.{update}
 use Rattle.context_codec.specs.Context.{KeyValue}
 use Rattle.header_codec.specs.declared.settings.Settings.{Settings}
@@ -10,7 +11,8 @@ use Rattle.keyring_trait.specs.declared.served.Served.{Served}
 use Rattle.stream_open.specs.Asking.{Heard, served_in}
 use Rattle.desk_core.specs.declared.errors.DeskError.{DeskError}
 use Rattle.desk_core.specs.SealRequest.{SealRequestValue}
-use Rattle.desk_core.specs.Session.{SessionValue, Turn, fed, ended, dropped, Reply, NoReply, Gives, Refuses, Fails, seal_opened, open_opened}
+use Rattle.desk_core.specs.Session.{SessionValue, Turn, desk_fed, ended, dropped, Reply, NoReply}
+use Rattle.desk_core.specs.Session.{Gives, Refuses, Fails, seal_opened, open_opened}
 
 -- What a desk is worth: the sessions that are live, by their numbers; the last number that was
 -- drawn; what the manager answered so far; and what the last call gave.
@@ -67,17 +69,17 @@ drawn v = record v { last = v.last + 1 }
 
 -- A call: a session is opened, to seal or to open a message; a piece is fed; the session is ended,
 -- or dropped. With each comes what the manager said in it.
-pub data Call : Type 0 where
-  OpenSeal : (request : SealRequestValue) (now : ℕ) (random : List ℕ) (reply : Reply) → Call
-  OpenOpen : (settings : Settings) (given : List KeyValue) → Call
-  Feed : (now : ℕ) (piece : List ℕ) (heard : Heard) → Call
-  End : Call
-  DropSession : Call
+pub data DeskCall : Type 0 where
+  OpenSeal : (request : SealRequestValue) (now : ℕ) (random : List ℕ) (reply : Reply) → DeskCall
+  OpenOpen : (settings : Settings) (given : List KeyValue) → DeskCall
+  Feed : (now : ℕ) (piece : List ℕ) (heard : Heard) → DeskCall
+  End : DeskCall
+  DropSession : DeskCall
 
 -- One call, of this session, and whether memory ran out in it.
-pub record Event : Type 0 where
+pub record DeskEvent : Type 0 where
   pub session : ℕ
-  pub call : Call
+  pub call : DeskCall
   pub short : Bool
 
 -- What a call answers: a number, which is that of the session opened or of the bytes used; or
@@ -91,50 +93,51 @@ pub record Handed : Type 0 where
   pub answer : Answer
   pub out : List ℕ
 
-abbrev pub numbered : Turn ℕ → Handed
-numbered turn = record { answer = Number turn.answer; out = turn.out }
+abbrev pub handed_number : Turn ℕ → Handed
+handed_number turn = record { answer = Number turn.answer; out = turn.out }
 
 abbrev pub plain : Turn (Unit {0}) → Handed
 plain turn = record { answer = Plain turn.answer; out = turn.out }
 
 -- what a call hands out, by what its session was worth before
-abbrev pub handed_in : ℕ → Bool → Option SessionValue → Call → Handed
+abbrev pub handed_in : ℕ → Bool → Option SessionValue → DeskCall → Handed
 handed_in id short live (OpenSeal request now random reply) =
-    numbered (seal_opened request random reply short id)
-handed_in id short live (OpenOpen settings given) = numbered (open_opened settings given short id)
-handed_in id short live (Feed now piece heard) = numbered (fed live piece heard short)
+    handed_number (seal_opened request random reply short id)
+handed_in id short live (OpenOpen settings given) =
+    handed_number (open_opened settings given short id)
+handed_in id short live (Feed now piece heard) = handed_number (desk_fed live piece heard short)
 handed_in id short live End = plain (ended live)
 handed_in id short live DropSession = plain (dropped live)
 
-abbrev pub handed_by : DeskValue → Event → Handed
+abbrev pub handed_by : DeskValue → DeskEvent → Handed
 handed_by v e = handed_in e.session e.short (v.live e.session) e.call
 
 -- the desk after it
-abbrev pub after_call : DeskValue → ℕ → Bool → Call → DeskValue
-after_call v id short (OpenSeal request now random reply) =
+abbrev pub after_desk_call : DeskValue → ℕ → Bool → DeskCall → DeskValue
+after_desk_call v id short (OpenSeal request now random reply) =
     after_turn (drawn v) id (seal_lines id now request reply)
     (seal_opened request random reply short id)
-after_call v id short (OpenOpen settings given) =
+after_desk_call v id short (OpenOpen settings given) =
     after_turn (drawn v) id [] (open_opened settings given short id)
-after_call v id short (Feed now piece heard) =
-    after_turn v id (open_lines id now heard) (fed (v.live id) piece heard short)
-after_call v id short End = after_turn v id [] (ended (v.live id))
-after_call v id short DropSession = after_turn v id [] (dropped (v.live id))
+after_desk_call v id short (Feed now piece heard) =
+    after_turn v id (open_lines id now heard) (desk_fed (v.live id) piece heard short)
+after_desk_call v id short End = after_turn v id [] (ended (v.live id))
+after_desk_call v id short DropSession = after_turn v id [] (dropped (v.live id))
 
-abbrev pub after_event : DeskValue → Event → DeskValue
-after_event v e = after_call v e.session e.short e.call
+abbrev pub after_desk_event : DeskValue → DeskEvent → DeskValue
+after_desk_event v e = after_desk_call v e.session e.short e.call
 
 -- the desk after these calls
-unfoldable pub desk : List Event → DeskValue → DeskValue
+unfoldable pub desk : List DeskEvent → DeskValue → DeskValue
 desk [] v = v
-desk (e ∷ es) v = desk es (after_event v e)
+desk (e ∷ es) v = desk es (after_desk_event v e)
 
 -- the calls of this session, in their order
-abbrev pub own : ℕ → List Event → List Event
+abbrev pub own : ℕ → List DeskEvent → List DeskEvent
 own s events = filter (λ e. nat_eq e.session s) events
 
 -- what this session was handed in these calls, one after another
-unfoldable pub handed : ℕ → List Event → DeskValue → List Handed
+unfoldable pub handed : ℕ → List DeskEvent → DeskValue → List Handed
 handed s [] v = []
 handed s (e ∷ es) v = (if nat_eq e.session s then handed_by v e ∷ [] else [])
-    ++ handed s es (after_event v e)
+    ++ handed s es (after_desk_event v e)

@@ -15,26 +15,27 @@ use Rattle.stream_open.specs.Asking.{Heard, Found, IsHeard}
 use Rattle.stream_open.specs.Session as open_session
 use Rattle.stream_open.specs.Session.{OpeningValue, asked_header}
 use Rattle.desk_core.specs.declared.errors.DeskError.TheVariants as errors
-use Rattle.desk_core.specs.Session.{Sealing, Opening, Turn, fed}
-use Rattle.desk_core.specs.Desk.{DeskValue, empty_desk, Event, after_event, handed_by, handed, own}
+use Rattle.desk_core.specs.Session.{Sealing, Opening, Turn, desk_fed}
+use Rattle.desk_core.specs.Desk.{DeskValue, empty_desk, DeskEvent, after_desk_event, handed_by}
+use Rattle.desk_core.specs.Desk.{handed, own}
 
 -- ---- no session sees another
 
 -- A call leaves every other session as it was. What it hands to its own, and what that is worth
 -- then, are the same at any desk at which the session is worth the same.
-pub record ActsOn (v : DeskValue) (e : Event) : Type 0 where
-  pub others : (s : ℕ) → s ≢ e.session → (after_event v e).live s ≡ v.live s
+pub record ActsOn (v : DeskValue) (e : DeskEvent) : Type 0 where
+  pub others : (s : ℕ) → s ≢ e.session → (after_desk_event v e).live s ≡ v.live s
   pub handed : (w : DeskValue) → w.live e.session ≡ v.live e.session → handed_by w e ≡ handed_by v e
   pub own : (w : DeskValue) → w.live e.session ≡ v.live e.session
-      → (after_event w e).live e.session ≡ (after_event v e).live e.session
+      → (after_desk_event w e).live e.session ≡ (after_desk_event v e).live e.session
 
 abbrev pub ActsAlone : Type 0
-ActsAlone = (v : DeskValue) (e : Event) → ActsOn v e
+ActsAlone = (v : DeskValue) (e : DeskEvent) → ActsOn v e
 
 -- whatever calls come, in whatever order, what a session is handed is what it is handed by its own
 -- calls alone
 abbrev pub HandsItsOwn : Type 0
-HandsItsOwn = (s : ℕ) (events : List Event)
+HandsItsOwn = (s : ℕ) (events : List DeskEvent)
     → handed s events empty_desk ≡ handed s (own s events) empty_desk
 
 -- ---- what is fed to a session
@@ -42,36 +43,36 @@ HandsItsOwn = (s : ℕ) (events : List Event)
 -- The step of a sealing session is its sealer's, which used so many bytes: the session is live
 -- still, and what is given is what the sealer gives.
 pub record FeedsSealer (v : SealingValue) (piece : List ℕ) (turn : Turn ℕ) (n : ℕ) : Type 0 where
-  pub steps : seal.step_answer v piece ≡ Ok n
-  pub left : turn.left ≡ Some (Sealing (seal.stepped v piece))
-  pub out : turn.out ≡ (seal.stepped v piece).out
+  pub steps : seal.sealing_step_answer v piece ≡ Ok n
+  pub left : turn.left ≡ Some (Sealing (seal.sealing_stepped v piece))
+  pub out : turn.out ≡ (seal.sealing_stepped v piece).out
 
 -- The same of an opening session and its opener, which heard this.
 pub record FeedsOpener (v : OpeningValue) (piece : List ℕ) (heard : Heard) (turn : Turn ℕ)
     (n : ℕ) : Type 0 where
-  pub steps : open_session.step_answer v piece heard ≡ Ok n
-  pub left : turn.left ≡ Some (Opening (open_session.stepped v piece heard (Ok n)))
-  pub out : turn.out ≡ (open_session.stepped v piece heard (Ok n)).out
+  pub steps : open_session.opening_step_answer v piece heard ≡ Ok n
+  pub left : turn.left ≡ Some (Opening (open_session.opening_stepped v piece heard (Ok n)))
+  pub out : turn.out ≡ (open_session.opening_stepped v piece heard (Ok n)).out
 
 -- A session that is fed is fed as its machine is, whose own laws say what comes of a piece that is
 -- fed to its end. So does an error name the machine's.
 pub record FeedsMachines : Type 0 where
   pub sealed : (v : SealingValue) (piece : List ℕ) (heard : Heard) (short : Bool) (n : ℕ)
-      → (fed (Some (Sealing v)) piece heard short).answer ≡ Ok n
-      → FeedsSealer v piece (fed (Some (Sealing v)) piece heard short) n
+      → (desk_fed (Some (Sealing v)) piece heard short).answer ≡ Ok n
+      → FeedsSealer v piece (desk_fed (Some (Sealing v)) piece heard short) n
   pub refused : (v : SealingValue) (piece : List ℕ) (heard : Heard) (short : Bool)
-      (refusal : Refusal) → (fed (Some (Sealing v)) piece heard short).answer
+      (refusal : Refusal) → (desk_fed (Some (Sealing v)) piece heard short).answer
       ≡ Err (errors.Refusal refusal)
-      → seal.step_answer v piece ≡ Err (seals.Refusal refusal)
+      → seal.sealing_step_answer v piece ≡ Err (seals.Refusal refusal)
   pub opened : (v : OpeningValue) (piece : List ℕ) (heard : Heard) (short : Bool) (n : ℕ)
-      → (fed (Some (Opening v)) piece heard short).answer ≡ Ok n
-      → FeedsOpener v piece heard (fed (Some (Opening v)) piece heard short) n
+      → (desk_fed (Some (Opening v)) piece heard short).answer ≡ Ok n
+      → FeedsOpener v piece heard (desk_fed (Some (Opening v)) piece heard short) n
   pub faulty : (v : OpeningValue) (piece : List ℕ) (heard : Heard) (short : Bool) (fault : Fault)
-      → (fed (Some (Opening v)) piece heard short).answer ≡ Err (errors.Fault fault)
-      → open_session.step_answer v piece heard ≡ Err (opens.Fault fault)
+      → (desk_fed (Some (Opening v)) piece heard short).answer ≡ Err (errors.Fault fault)
+      → open_session.opening_step_answer v piece heard ≡ Err (opens.Fault fault)
   pub failed : (v : OpeningValue) (piece : List ℕ) (heard : Heard) (short : Bool)
-      → (fed (Some (Opening v)) piece heard short).answer ≡ Err errors.KeyringFault
-      → open_session.step_answer v piece heard ≡ Err opens.KeyringFault
+      → (desk_fed (Some (Opening v)) piece heard short).answer ≡ Err errors.KeyringFault
+      → open_session.opening_step_answer v piece heard ≡ Err opens.KeyringFault
 
 -- ---- with what a message is unlocked
 

@@ -1,7 +1,8 @@
 -- A session that is fed a whole piece, or is ended, and a receiver that takes what it gives.
 -- `state` says what a manager is at a moment; `takes old new bytes`: the receiver took all of these
 -- bytes; `fails old new bytes error`: it failed with this error while it was given them.
-use Rattle.std.specs.Prelude.{◌≡◌, ◌≢◌, ◌↔◌, ℕ, ◌≤◌, List, [], ◌++◌, length, Option, Some, None, Result, Ok, Err, nat_eq}
+use Rattle.std.specs.Prelude.{◌≡◌, ◌≢◌, ◌↔◌, ℕ, ◌≤◌, List, [], ◌++◌, length, Option, Some, None}
+use Rattle.std.specs.Prelude.{Result, Ok, Err, nat_eq}
 use Rattle.std.specs.BTreeMap.{BTreeMap}
 use Rattle.std.specs.Global.{Box}
 use Rattle.std.specs.Map.{update}
@@ -25,9 +26,10 @@ use Rattle.desk_core.specs.declared.errors.DeskError.{DeskError}
 use Rattle.desk_core.specs.declared.errors.DeskError.TheVariants as errors
 use Rattle.desk_core.specs.declared.session.Session.{Session}
 use Rattle.desk_core.specs.declared.live_sessions.Desk.{Desk}
-use Rattle.desk_core.specs.Session.{SessionValue, Sealing, Opening, open_answer, open_error, seal_error}
+use Rattle.desk_core.specs.Session.{SessionValue, Sealing, Opening, open_answer, open_error}
+use Rattle.desk_core.specs.Session.{seal_error}
 use Rattle.desk_core.specs.Desk.{DeskValue, open_lines}
-use Rattle.desk_core.specs.Stands.{AreLive, Stands, StandsAt, manager_of}
+use Rattle.desk_core.specs.Stands.{AreLive, Stands, StandsAtNumber, manager_of}
 
 -- ---- a piece
 
@@ -37,13 +39,14 @@ abbrev pub FeedsSealing : {R E T : Type 0} → (R → R → List ℕ → Type 0)
     → (R → R → List ℕ → E → Type 0) → SealingValue → List ℕ → R → R → Option SessionValue
     → Result T (FeedError DeskError E) → Type 0
 FeedsSealing takes fails v piece before after left (Ok done) =
-    (sealer : Sealer) × seal.FedWhole takes v piece before after sealer
+    (sealer : Sealer) × seal.SealerFedWhole takes v piece before after sealer
     × (left ≡ Some (Sealing (sealing.fed v piece)))
 FeedsSealing takes fails v piece before after left (Err (failures.Receiver error)) =
-    (sealer : Sealer) × seal.FedUntil fails v piece error before after sealer × (left ≡ None)
+    (sealer : Sealer) × seal.SealerFedUntil fails v piece error before after sealer × (left ≡ None)
 FeedsSealing takes fails v piece before after left
     (Err (failures.Machine (errors.Refusal refusal))) =
-    (sealer : Sealer) × seal.FedShort takes v piece refusal before after sealer × (left ≡ None)
+    (sealer : Sealer) × seal.SealerFedShort takes v piece refusal before after sealer
+    × (left ≡ None)
 FeedsSealing takes fails v piece before after left (Err (failures.Machine error)) = ⊥
 
 -- An opener was fed so, and this was heard from the manager. The desk gives its error.
@@ -78,7 +81,8 @@ SealsOn takes fails before after left (Err (failures.Machine (errors.Refusal ref
 SealsOn takes fails before after left (Err (failures.Machine error)) = ⊥
 
 -- What feeding a piece to this session comes to, where there is one; of a session that seals, where
--- each piece before was fed to its end, or this one goes on from a step. This was heard from the manager, and this session is left.
+-- each piece before was fed to its end, or this one goes on from a step. This was heard from the
+-- manager, and this session is left.
 abbrev pub FeedsSession : {M R E T : Type 0} → (M → ManagerNow) → (R → R → List ℕ → Type 0)
     → (R → R → List ℕ → E → Type 0) → ℕ → Option SessionValue → List ℕ → M → M → R → R → Heard
     → Option SessionValue → Result T (FeedError DeskError E) → Type 0
@@ -98,20 +102,20 @@ abbrev pub FinishesSealing : {R E T : Type 0} → (R → R → List ℕ → Type
     → (R → R → List ℕ → E → Type 0) → SealingValue → R → R → Result T (FeedError DeskError E)
     → Type 0
 FinishesSealing takes fails v before after (Ok done) =
-    takes before after (seal_session.finished v).out
+    takes before after (seal_session.sealing_finished v).out
 FinishesSealing takes fails v before after (Err (failures.Receiver error)) =
-    (1 ≤ length (seal_session.finished v).out)
-    × fails before after (seal_session.finished v).out error
+    (1 ≤ length (seal_session.sealing_finished v).out)
+    × fails before after (seal_session.sealing_finished v).out error
 FinishesSealing takes fails v before after (Err (failures.Machine error)) = ⊥
 
 -- the message is whole, or it isn't, and the receiver isn't asked
 abbrev pub FinishesOpening : {R E T : Type 0} → OpeningValue → R → R
     → Result T (FeedError DeskError E) → Type 0
 FinishesOpening v before after (Ok done) =
-    (open_session.finish_answer v ≡ Ok tt) × (after ≡ before)
+    (open_session.opening_finish_answer v ≡ Ok tt) × (after ≡ before)
 FinishesOpening v before after (Err (failures.Receiver error)) = ⊥
 FinishesOpening v before after (Err (failures.Machine error)) =
-    (open_answer (open_session.finish_answer v) ≡ Err error) × (after ≡ before)
+    (open_answer (open_session.opening_finish_answer v) ≡ Err error) × (after ≡ before)
 
 -- what ending this session comes to, where there is one
 abbrev pub FinishesSession : {R E T : Type 0} → (R → R → List ℕ → Type 0)
@@ -177,7 +181,7 @@ pub record FeedsMachine {M R E T : Type 0} (state : M → ManagerNow)
       result
   pub bears : BearsHeard (state old) (state new) now (served_in heard)
   pub journal : more ≡ lines ++ open_lines id now heard
-  pub stands : StandsAt (machine_by result machine) left
+  pub stands : StandsAtNumber (machine_by result machine) left
   pub live : result ≢ Err (failures.Machine errors.NotLive)
 
 -- The same of the session of this number, where it is live; and these are live then.

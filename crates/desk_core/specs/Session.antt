@@ -2,7 +2,7 @@
 -- the session is worth then. Nothing but the session's own worth, and what the manager said in that
 -- call, plays a part. Standard: AWS Encryption SDK Specification, "Encrypt" and "Decrypt", of which
 -- each session is one.
-use Rattle.std.specs.Prelude.{ℕ, List, [], take, drop, Bool, Option, Some, None, Result, Ok, Err, if◌then◌else◌}
+use Rattle.std.specs.Prelude.{ℕ, List, [], Bool, Option, Some, None, Result, Ok, Err, if◌then◌else◌}
 use Rattle.esdk_fields.specs.declared.refusals.Refusal.{Refusal}
 use Rattle.context_codec.specs.Context.{KeyValue}
 use Rattle.header_codec.specs.declared.settings.Settings.{Settings}
@@ -14,7 +14,7 @@ use Rattle.stream_seal.specs.declared.errors.SealError.{SealError}
 use Rattle.stream_seal.specs.declared.errors.SealError.TheVariants as seals
 use Rattle.stream_seal.specs.Session as seal
 use Rattle.stream_seal.specs.Session.{SealingValue, beginning}
-use Rattle.stream_seal.specs.Start.{start_refusal}
+use Rattle.stream_seal.specs.Start.{start_refusal, drawn_id}
 use Rattle.stream_open.specs.declared.errors.OpenError.{OpenError}
 use Rattle.stream_open.specs.declared.errors.OpenError.TheVariants as opens
 use Rattle.stream_open.specs.Asking.{Heard}
@@ -30,14 +30,14 @@ pub data SessionValue : Type 0 where
   Opening : (v : OpeningValue) → SessionValue
 
 -- what its last call gave
-abbrev pub out_of : SessionValue → List ℕ
-out_of (Sealing v) = v.out
-out_of (Opening v) = v.out
+abbrev pub session_out : SessionValue → List ℕ
+session_out (Sealing v) = v.out
+session_out (Opening v) = v.out
 
 -- what a message begins with that is sealed; nothing, of one that is opened
-abbrev pub header_of : SessionValue → List ℕ
-header_of (Sealing v) = beginning v
-header_of (Opening v) = []
+abbrev pub sealed_header : SessionValue → List ℕ
+sealed_header (Sealing v) = beginning v
+sealed_header (Opening v) = []
 
 -- the whole context of a message that is opened, once its header is unlocked
 abbrev pub context_of : SessionValue → Option (List KeyValue)
@@ -45,10 +45,10 @@ context_of (Sealing v) = None
 context_of (Opening v) = whole_context v
 
 -- the header about which a step asks the manager; a message that is sealed asks about none
-abbrev pub asked_by : Option SessionValue → List ℕ → Option HeaderValue
-asked_by None piece = None
-asked_by (Some (Sealing v)) piece = None
-asked_by (Some (Opening v)) piece = asked_header v piece
+abbrev pub header_asked_about : Option SessionValue → List ℕ → Option HeaderValue
+header_asked_about None piece = None
+header_asked_about (Some (Sealing v)) piece = None
+header_asked_about (Some (Opening v)) piece = asked_header v piece
 
 -- ---- errors
 
@@ -98,7 +98,7 @@ failed error = record { answer = Err error; out = []; left = None }
 -- error
 abbrev pub answered : {A : Type 0} → Result A DeskError → SessionValue → Option SessionValue
     → Turn A
-answered (Ok value) s left = record { answer = Ok value; out = out_of s; left = left }
+answered (Ok value) s left = record { answer = Ok value; out = session_out s; left = left }
 answered (Err error) s left = failed error
 
 -- ---- a step
@@ -106,43 +106,43 @@ answered (Err error) s left = failed error
 -- what an opener answers: `short` says that memory ran out
 abbrev pub opener_answer : OpeningValue → List ℕ → Heard → Bool → Result ℕ OpenError
 opener_answer v piece heard short =
-    if short then Err opens.Memory else open_session.step_answer v piece heard
+    if short then Err opens.Memory else open_session.opening_step_answer v piece heard
 
 -- what a step answers
-abbrev pub step_answer : SessionValue → List ℕ → Heard → Bool → Result ℕ DeskError
-step_answer (Sealing v) piece heard short = seal_answer (seal.step_answer v piece)
-step_answer (Opening v) piece heard short = open_answer (opener_answer v piece heard short)
+abbrev pub desk_step_answer : SessionValue → List ℕ → Heard → Bool → Result ℕ DeskError
+desk_step_answer (Sealing v) piece heard short = seal_answer (seal.sealing_step_answer v piece)
+desk_step_answer (Opening v) piece heard short = open_answer (opener_answer v piece heard short)
 
 -- the session after it
-abbrev pub stepped : SessionValue → List ℕ → Heard → Bool → SessionValue
-stepped (Sealing v) piece heard short = Sealing (seal.stepped v piece)
-stepped (Opening v) piece heard short =
-    Opening (open_session.stepped v piece heard (opener_answer v piece heard short))
+abbrev pub desk_stepped : SessionValue → List ℕ → Heard → Bool → SessionValue
+desk_stepped (Sealing v) piece heard short = Sealing (seal.sealing_stepped v piece)
+desk_stepped (Opening v) piece heard short =
+    Opening (open_session.opening_stepped v piece heard (opener_answer v piece heard short))
 
 -- A step of the session, where there is one, in which this was heard: it stays live, unless it
 -- answers an error.
-abbrev pub fed : Option SessionValue → List ℕ → Heard → Bool → Turn ℕ
-fed None piece heard short = failed errors.NotLive
-fed (Some s) piece heard short =
-    answered (step_answer s piece heard short) (stepped s piece heard short)
-    (Some (stepped s piece heard short))
+abbrev pub desk_fed : Option SessionValue → List ℕ → Heard → Bool → Turn ℕ
+desk_fed None piece heard short = failed errors.NotLive
+desk_fed (Some s) piece heard short =
+    answered (desk_step_answer s piece heard short) (desk_stepped s piece heard short)
+    (Some (desk_stepped s piece heard short))
 
 -- ---- the end
 
 -- what `finish` answers
-abbrev pub finish_answer : SessionValue → Result (Unit {0}) DeskError
-finish_answer (Sealing v) = seal_answer (seal.finish_answer v)
-finish_answer (Opening v) = open_answer (open_session.finish_answer v)
+abbrev pub desk_finish_answer : SessionValue → Result (Unit {0}) DeskError
+desk_finish_answer (Sealing v) = seal_answer (seal.sealing_finish_answer v)
+desk_finish_answer (Opening v) = open_answer (open_session.opening_finish_answer v)
 
 -- the session after it
-abbrev pub finished : SessionValue → SessionValue
-finished (Sealing v) = Sealing (seal.finished v)
-finished (Opening v) = Opening (open_session.finished v)
+abbrev pub desk_finished : SessionValue → SessionValue
+desk_finished (Sealing v) = Sealing (seal.sealing_finished v)
+desk_finished (Opening v) = Opening (open_session.opening_finished v)
 
 -- `finish` of the session, where there is one, which isn't live any more.
 abbrev pub ended : Option SessionValue → Turn (Unit {0})
 ended None = failed errors.NotLive
-ended (Some s) = answered (finish_answer s) (finished s) None
+ended (Some s) = answered (desk_finish_answer s) (desk_finished s) None
 
 -- It isn't live any more, whatever it was worth.
 abbrev pub dropped : Option SessionValue → Turn (Unit {0})
@@ -150,13 +150,6 @@ dropped None = failed errors.NotLive
 dropped (Some s) = record { answer = Ok tt; out = []; left = None }
 
 -- ---- the beginning
-
--- the message id among the random bytes, and what the materials are made with
-abbrev pub id_in : List ℕ → List ℕ
-id_in random = take 32 random
-
-abbrev pub rest_in : List ℕ → List ℕ
-rest_in random = drop 32 random
 
 -- What the manager says to a request for materials: nothing, where it wasn't heard for want of
 -- memory; the materials that it gives; why it refuses; or that it failed.
@@ -167,21 +160,22 @@ pub data Reply : Type 0 where
   Fails : Reply
 
 -- a session of this number, where no header of these materials is refused
-abbrev pub begun : SealRequestValue → List ℕ → EncMaterialsValue → ℕ → Option Refusal → Turn ℕ
-begun request random m id None =
+abbrev pub begun_turn : SealRequestValue → List ℕ → EncMaterialsValue → ℕ → Option Refusal → Turn ℕ
+begun_turn request random m id None =
     record {
       answer = Ok id;
       out = [];
-      left = Some (Sealing (seal.new_session m request.wish.declared request.size (id_in random)));
+      left = Some (Sealing (seal.new_sealing_session m request.wish.declared request.size
+          (drawn_id random)));
     }
-begun request random m id (Some refusal) = failed (errors.Refusal refusal)
+begun_turn request random m id (Some refusal) = failed (errors.Refusal refusal)
 
 -- A message that is to be sealed: its session begins with the materials given, or there is none.
 abbrev pub seal_opened : SealRequestValue → List ℕ → Reply → Bool → ℕ → Turn ℕ
 seal_opened request random NoReply short id = failed errors.Memory
 seal_opened request random (Gives m) short id =
     if short then failed errors.Memory
-    else begun request random m id (start_refusal m request.max_keys (id_in random))
+    else begun_turn request random m id (start_refusal m request.max_keys (drawn_id random))
 seal_opened request random (Refuses refusal) short id = failed (errors.Refusal refusal)
 seal_opened request random Fails short id = failed errors.KeyringFault
 
@@ -192,5 +186,5 @@ open_opened settings given short id =
     else record {
       answer = Ok id;
       out = [];
-      left = Some (Opening (open_session.new_session settings given));
+      left = Some (Opening (open_session.new_opening_session settings given));
     }

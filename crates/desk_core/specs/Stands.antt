@@ -1,5 +1,6 @@
 -- When a desk stands for the sessions that are live at it.
-use Rattle.std.specs.Prelude.{◌≡◌, ℕ, ◌<◌, List, [], ⊤, false, Option, Some, None, option_map, box_value}
+use Rattle.std.specs.Prelude.{◌≡◌, ℕ, ◌<◌, List, [], ⊤, false, Option, Some, None, option_map}
+use Rattle.std.specs.Prelude.{box_value}
 use Rattle.std.specs.BTreeMap.{BTreeMap, get}
 use Rattle.std.specs.Global.{Box}
 use Rattle.std.specs.Ordering.{nat_cmp}
@@ -11,7 +12,7 @@ use Rattle.desk_core.specs.declared.session.Session.TheVariants as machines
 use Rattle.desk_core.specs.declared.live_sessions.Desk.{Desk}
 use Rattle.desk_core.specs.declared.live_sessions.Lent.{Lent}
 use Rattle.desk_core.specs.declared.live_sessions.Lent.TheVariants as lents
-use Rattle.desk_core.specs.Session.{SessionValue, Sealing, Opening, out_of}
+use Rattle.desk_core.specs.Session.{SessionValue, Sealing, Opening, session_out}
 use Rattle.desk_core.specs.Desk.{DeskValue}
 
 -- ---- one session
@@ -33,11 +34,11 @@ abbrev pub HasMachine : Session → Type 0
 HasMachine machine = (s : SessionValue) × StandsFor machine s × IsLive s
 
 -- there is such a session in both, or none in either
-abbrev pub StandsAt : Option Session → Option SessionValue → Type 0
-StandsAt None None = ⊤
-StandsAt None (Some s) = ⊥
-StandsAt (Some machine) None = ⊥
-StandsAt (Some machine) (Some s) = StandsFor machine s × IsLive s
+abbrev pub StandsAtNumber : Option Session → Option SessionValue → Type 0
+StandsAtNumber None None = ⊤
+StandsAtNumber None (Some s) = ⊥
+StandsAtNumber (Some machine) None = ⊥
+StandsAtNumber (Some machine) (Some s) = StandsFor machine s × IsLive s
 
 -- the machine of this number, if there is one, which is kept in a box
 abbrev pub machine_at : BTreeMap ℕ (Box Session) → ℕ → Option Session
@@ -45,7 +46,7 @@ machine_at sessions id = option_map box_value (get nat_cmp sessions id)
 
 -- each number has a machine that stands for its session, where it is live, and else none
 abbrev pub AreLive : BTreeMap ℕ (Box Session) → (ℕ → Option SessionValue) → Type 0
-AreLive sessions live = (id : ℕ) → StandsAt (machine_at sessions id) (live id)
+AreLive sessions live = (id : ℕ) → StandsAtNumber (machine_at sessions id) (live id)
 
 -- they are the machines of a desk
 abbrev pub HasMachines : BTreeMap ℕ (Box Session) → Type 0
@@ -68,9 +69,9 @@ last_of desk = desk.last_id
 -- which is kept.
 abbrev pub Lends : Lent → (ℕ → Option SessionValue) → List ℕ → Type 0
 Lends lents.Nothing live out = out ≡ []
-Lends (lents.Live id) live out = (s : SessionValue) × (live id ≡ Some s) × (out ≡ out_of s)
+Lends (lents.Live id) live out = (s : SessionValue) × (live id ≡ Some s) × (out ≡ session_out s)
 Lends (lents.Ended machine) live out =
-    (s : SessionValue) × StandsFor machine.value s × (out ≡ out_of s)
+    (s : SessionValue) × StandsFor machine.value s × (out ≡ session_out s)
 
 -- Its machines stand for the sessions that are live, none of whose numbers wasn't drawn; and its
 -- last number, its journal and what it gave last are those.

@@ -13,7 +13,8 @@ use Rattle.stream_open.specs.Session.{OpeningValue}
 use Rattle.stream_open.specs.Stands as open_stands
 use Rattle.desk_core.specs.declared.errors.DeskError.{DeskError}
 use Rattle.desk_core.specs.declared.session.Session.{Session}
-use Rattle.desk_core.specs.Session.{SessionValue, open_answer, step_answer, stepped, fed}
+use Rattle.desk_core.specs.Session.{SessionValue, open_answer, desk_step_answer, desk_stepped}
+use Rattle.desk_core.specs.Session.{desk_fed}
 use Rattle.desk_core.specs.Desk.{open_lines}
 use Rattle.desk_core.specs.Stands.{StandsFor, IsLive, AreLive}
 use Rattle.desk_core.specs.Calls.{MayHear}
@@ -23,13 +24,13 @@ use Rattle.desk_core.specs.Calls.{MayHear}
 pub record StepsOpener (old new : ManagerNow) (now : ℕ) (v : OpeningValue) (piece : List ℕ)
     (result : Result ℕ DeskError) (opener : Opener) : Type 0 where
   pub own : Result ℕ OpenError
-  pub steps : open_stands.Steps old new now v piece own opener
+  pub steps : open_stands.OpenerSteps old new now v piece own opener
   pub answer : result ≡ open_answer own
 
 -- This was heard in the step, the manager bears its lines so, and the journal has one line more
 -- where it answered with materials. The answer is the session's; where it is no error, the machine
 -- stands for the session after the step, which is live.
-pub record Steps (old new : ManagerNow) (s : SessionValue) (id now : ℕ) (piece : List ℕ)
+pub record DeskSteps (old new : ManagerNow) (s : SessionValue) (id now : ℕ) (piece : List ℕ)
     (result : Result ℕ DeskError) (machine : Session)
     (before after : List JournalLine) : Type 0 where
   pub heard : Heard
@@ -37,9 +38,9 @@ pub record Steps (old new : ManagerNow) (s : SessionValue) (id now : ℕ) (piece
   pub hears : MayHear (said_last old new) now (Some s) piece heard short
   pub bears : BearsHeard old new now (served_in heard)
   pub journal : after ≡ before ++ open_lines id now heard
-  pub answer : result ≡ step_answer s piece heard short
-  pub stands : IfOk result (λ _. StandsFor machine (stepped s piece heard short))
-  pub live : IfOk result (λ _. IsLive (stepped s piece heard short))
+  pub answer : result ≡ desk_step_answer s piece heard short
+  pub stands : IfOk result (λ _. StandsFor machine (desk_stepped s piece heard short))
+  pub live : IfOk result (λ _. IsLive (desk_stepped s piece heard short))
 
 -- The same of the session of this number, where it is live: what is live after it are the others,
 -- and what the step left of this one.
@@ -51,5 +52,5 @@ pub record StepsAt (old new : ManagerNow) (live : ℕ → Option SessionValue) (
   pub hears : MayHear (said_last old new) now (live id) piece heard short
   pub bears : BearsHeard old new now (served_in heard)
   pub journal : after ≡ before ++ open_lines id now heard
-  pub answer : result ≡ (fed (live id) piece heard short).answer
-  pub left : AreLive sessions (update nat_eq live id (fed (live id) piece heard short).left)
+  pub answer : result ≡ (desk_fed (live id) piece heard short).answer
+  pub left : AreLive sessions (update nat_eq live id (desk_fed (live id) piece heard short).left)

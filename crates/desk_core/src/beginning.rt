@@ -1,6 +1,7 @@
 //! The beginning of a session that seals a message.
 
-ghost use Rattle.std.specs.Prelude.{◌≡◌, ◌+◌, ◌*◌, ◌<◌, ◌++◌, length, vec_len, vec_capacity, Some, None, IfOk, IfErr, OnOk};
+ghost use Rattle.std.specs.Prelude.{◌≡◌, ◌+◌, ◌*◌, ◌<◌, ◌++◌, length, vec_len, vec_capacity, Some};
+ghost use Rattle.std.specs.Prelude.{None, IfOk, IfErr, OnOk};
 ghost use Rattle.keyring_trait.specs.declared.journal.Kind.TheVariants.{Seal};
 ghost use Rattle.keyring_trait.specs.Manager.{Went};
 ghost use Rattle.keyring_trait.specs.Saying.{said_last};
@@ -8,8 +9,8 @@ ghost use Rattle.stream_seal.specs.Start.{start_refusal};
 ghost use Rattle.desk_core.specs.Session.{manager_error};
 ghost use Rattle.desk_core.specs.Desk.{lines_of};
 ghost use Rattle.desk_core.specs.Stands.{StandsFor};
-ghost use Rattle.desk_core.specs.Beginning.{Begins, NotBegun, begun_value};
-ghost use Rattle.desk_core.specs.Calls.{IsWritable};
+ghost use Rattle.desk_core.specs.Beginning.{DeskBegins, NotBegun, begun_value};
+ghost use Rattle.desk_core.specs.Calls.{MaterialsAreWritable};
 
 use crate::errors::DeskError;
 use crate::seal_request::SealRequest;
@@ -31,7 +32,7 @@ pub(crate) fn begin_sealing<M: Manager>(
     random: &[u8],
 ) -> Result<Box<Session>, DeskError>
     requires { length random.now ≡ 64 + 12 * (M.state manager.old).meaning.wraps }
-    ensures begins { Begins (said_last (M.state manager.old) (M.state manager.new))
+    ensures begins { DeskBegins (said_last (M.state manager.old) (M.state manager.new))
         request.now id now random.now result journal.old.items journal.new.items }
     ensures went { Went (M.state manager.old) (M.state manager.new) }
     ensures bears { (M.state manager.old).bears journal.old.items
@@ -57,7 +58,7 @@ fn begin_recorded<M: Manager>(
 ) -> Result<Box<Session>, DeskError>
     requires drawn { length random.now ≡ 64 + 12 * (M.state manager.old).meaning.wraps }
     requires room { vec_len journal.old < vec_capacity journal.old }
-    ensures begins { Begins (said_last (M.state manager.old) (M.state manager.new))
+    ensures begins { DeskBegins (said_last (M.state manager.old) (M.state manager.new))
         request.now id now random.now result journal.old.items journal.new.items }
     ensures went { Went (M.state manager.old) (M.state manager.new) }
     ensures bears { (M.state manager.old).bears journal.old.items
@@ -111,7 +112,7 @@ fn begin(
         ≡ None) }
     ensures cause { IfErr result (NotBegun (start_refusal materials.now request.now.max_keys
         message_id.now)) }
-    ensures writable { IsWritable materials.now }
+    ensures writable { MaterialsAreWritable materials.now }
 {
     are_writable(materials);
     let declared = request.wish().declared();
@@ -132,7 +133,7 @@ fn begin(
 /// Says of materials what their type keeps: a header can always be made of them. It is called for
 /// its clause alone.
 fn are_writable(materials: &EncMaterials)
-    ensures { IsWritable materials.now }
+    ensures { MaterialsAreWritable materials.now }
 {
     let _length = materials.context().length();
 }

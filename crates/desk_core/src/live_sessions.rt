@@ -1,16 +1,21 @@
 //! Sessions side by side over one materials manager.
 
-ghost use Rattle.std.specs.Prelude.{◌≡◌, ◌≢◌, ◌↔◌, ℕ, Option, OnOk, OnErr, nat_eq, ◌+◌, ◌-◌, ◌*◌, ◌^◌, ◌<◌, ◌≤◌, false, [], length, Some, None, Err, IfOk, IfErr, option_map};
+ghost use Rattle.std.specs.Prelude.{◌≡◌, ◌≢◌, ◌↔◌, ℕ, Option, OnOk, OnErr, nat_eq, ◌+◌, ◌-◌, ◌*◌};
+ghost use Rattle.std.specs.Prelude.{◌^◌, ◌<◌, ◌≤◌, false, [], length, Some, None, Err, IfOk, IfErr};
+ghost use Rattle.std.specs.Prelude.{option_map};
 ghost use Rattle.std.specs.Map.{update};
 ghost use Rattle.std.specs.Option.{option_copied};
 ghost use Rattle.keyring_trait.specs.Manager.{Went};
 ghost use Rattle.keyring_trait.specs.Saying.{said_last};
 ghost use Rattle.esdk_base.specs.declared.receiver.FeedError.TheVariants.{Machine};
 ghost use Rattle.desk_core.specs.declared.errors.DeskError.TheVariants.{NotLive, Memory};
-ghost use Rattle.desk_core.specs.Session.{SessionValue, header_of, context_of, asked_by, ended, dropped, finish_answer, finished};
-ghost use Rattle.desk_core.specs.Desk.{DeskValue, empty_desk, after_call, End, DropSession};
-ghost use Rattle.desk_core.specs.Stands.{Stands, StandsFor, IsLive, IsWorth, AreLive, manager_of, journal_of, last_of, work_at};
-ghost use Rattle.desk_core.specs.Calls.{OpensSeal, OpensOpen, Feeds};
+ghost use Rattle.desk_core.specs.Session.{SessionValue, sealed_header, context_of};
+ghost use Rattle.desk_core.specs.Session.{header_asked_about, ended, dropped, desk_finish_answer};
+ghost use Rattle.desk_core.specs.Session.{desk_finished};
+ghost use Rattle.desk_core.specs.Desk.{DeskValue, empty_desk, after_desk_call, End, DropSession};
+ghost use Rattle.desk_core.specs.Stands.{Stands, StandsFor, IsLive, IsWorth, AreLive, manager_of};
+ghost use Rattle.desk_core.specs.Stands.{journal_of, last_of, work_at};
+ghost use Rattle.desk_core.specs.Calls.{OpensSeal, OpensOpen, DeskFeeds};
 ghost use Rattle.desk_core.specs.Receiving.{FeedsInto, FinishesSession, handed_over};
 
 use crate::beginning::begin_sealing;
@@ -167,7 +172,7 @@ impl<M: Manager> Desk<M> {
     /// `NotLive`: no session of this number is live.
     pub fn header(&self, id: u64) -> Result<&[u8], DeskError>
         ensures header { (v : DeskValue) → Stands self.now v
-            → IfOk result (λ header. option_map header_of (v.live id) ≡ Some header.now) }
+            → IfOk result (λ header. option_map sealed_header (v.live id) ≡ Some header.now) }
         ensures not_live { (v : DeskValue) → Stands self.now v
             → IfErr result (λ error. (error ≡ NotLive) × (v.live id ≡ None)) }
     {
@@ -197,7 +202,7 @@ impl<M: Manager> Desk<M> {
         now: u64,
         piece: &[u8],
     ) -> Result<usize, DeskError>
-        ensures feeds { (v : DeskValue) → Stands self.old v → Feeds
+        ensures feeds { (v : DeskValue) → Stands self.old v → DeskFeeds
             (M.state (manager_of self.old)) (M.state (manager_of self.new))
             v id now piece.now result self.new }
         ensures not_live { (v : DeskValue) → Stands self.old v → (result ≡ Err NotLive)
@@ -213,7 +218,8 @@ impl<M: Manager> Desk<M> {
             → (M.state (manager_of self.old)).bears (journal_of self.old)
             → (M.state (manager_of self.new)).bears (journal_of self.new) }
         ensures unasked { (v : DeskValue) → Stands self.old v
-            → asked_by (v.live id) piece.now ≡ None → manager_of self.new ≡ manager_of self.old }
+            → header_asked_about (v.live id) piece.now ≡ None
+            → manager_of self.new ≡ manager_of self.old }
     {
         self.lent = Lent::Nothing;
         let used = step_at(
@@ -289,7 +295,7 @@ impl<M: Manager> Desk<M> {
         ensures not_live { (v : DeskValue) → Stands self.old v → (result ≡ Err NotLive)
             ↔ (v.live id ≡ None) }
         ensures stands { (v : DeskValue) → Stands self.old v
-            → Stands self.new (after_call v id false End) }
+            → Stands self.new (after_desk_call v id false End) }
         ensures manager { manager_of self.new ≡ manager_of self.old }
         ensures journal { journal_of self.new ≡ journal_of self.old }
     {
@@ -372,7 +378,7 @@ impl<M: Manager> Desk<M> {
         ensures answer { (v : DeskValue) → Stands self.old v
             → result ≡ (dropped (v.live id)).answer }
         ensures stands { (v : DeskValue) → Stands self.old v
-            → Stands self.new (after_call v id false DropSession) }
+            → Stands self.new (after_desk_call v id false DropSession) }
         ensures manager { manager_of self.new ≡ manager_of self.old }
         ensures journal { journal_of self.new ≡ journal_of self.old }
     {
@@ -446,11 +452,11 @@ fn finish_into<R: Receiver>(
 /// The session after its end, where it answers no error.
 fn after_end(session: Box<Session>) -> Result<Box<Session>, DeskError>
     ensures ok { (s : SessionValue) → StandsFor session.value s
-        → IfOk result (λ machine. StandsFor machine.value (finished s)) }
+        → IfOk result (λ machine. StandsFor machine.value (desk_finished s)) }
     ensures answer { (s : SessionValue) → StandsFor session.value s
-        → OnOk result (finish_answer s ≡ Ok tt) }
+        → OnOk result (desk_finish_answer s ≡ Ok tt) }
     ensures err { (s : SessionValue) → StandsFor session.value s
-        → IfErr result (λ error. finish_answer s ≡ Err error) }
+        → IfErr result (λ error. desk_finish_answer s ≡ Err error) }
 {
     let mut session = session;
     session.finish()?;

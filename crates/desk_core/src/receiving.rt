@@ -2,7 +2,7 @@
 
 ghost use Rattle.std.specs.Prelude.{◌≡◌, ℕ, ◌++◌, vec_len, vec_capacity, ◌<◌, Option, None};
 ghost use Rattle.keyring_trait.specs.Manager.{Went};
-ghost use Rattle.stream_open.specs.Receiving.{FeedsPiece, HasSession};
+ghost use Rattle.stream_open.specs.Receiving.{FeedsOpenerPiece, OpenerHasSession};
 ghost use Rattle.stream_open.specs.Session.{OpeningValue};
 ghost use Rattle.stream_open.specs.Stands.{Stands};
 ghost use Rattle.desk_core.specs.Session.{SessionValue, Opening};
@@ -94,7 +94,7 @@ fn feed_opener<M: Manager, R: Receiver>(
     piece: &[u8],
     output: &mut R,
 ) -> Result<(), FeedError<DeskError, R::Error>>
-    requires session { HasSession opener.old }
+    requires session { OpenerHasSession opener.old }
     requires still { Went (M.state manager.old) (M.state manager.old) }
     ensures feeds { (v : OpeningValue) → Stands opener.old v → IsLive (Opening v)
         → FeedsMachine M.state R.takes R.fails (Opening v) id now piece.now manager.old manager.new
@@ -126,7 +126,7 @@ fn feed_locked<M: Manager, R: Receiver>(
     piece: &[u8],
     output: &mut R,
 ) -> Result<(), FeedError<DeskError, R::Error>>
-    requires session { HasSession opener.old }
+    requires session { OpenerHasSession opener.old }
     requires room { vec_len journal.old < vec_capacity journal.old }
     ensures feeds { (v : OpeningValue) → Stands opener.old v → IsLive (Opening v) → v.served ≡ None
         → FeedsMachine M.state R.takes R.fails (Opening v) id now piece.now manager.old manager.new

@@ -5,7 +5,9 @@ ghost use Rattle.std.specs.Option.{option_copied};
 ghost use Rattle.esdk_base.specs.declared.receiver.FeedError.TheVariants.{Machine};
 ghost use Rattle.stream_seal.specs.declared.errors.SealError.{SealError};
 ghost use Rattle.desk_core.specs.declared.errors.DeskError.TheVariants.{Memory, NotLive};
-ghost use Rattle.desk_core.specs.Session.{SessionValue, out_of, header_of, context_of, finish_answer, finished, seal_error, open_error};
+ghost use Rattle.desk_core.specs.Session.{SessionValue, session_out, sealed_header, context_of};
+ghost use Rattle.desk_core.specs.Session.{desk_finish_answer, desk_finished, seal_error};
+ghost use Rattle.desk_core.specs.Session.{open_error};
 ghost use Rattle.desk_core.specs.Receiving.{FinishesSession};
 ghost use Rattle.desk_core.specs.Stands.{IsLive, StandsFor};
 
@@ -29,7 +31,7 @@ pub(crate) enum Session {
 impl Session {
     /// What the last step, or `finish`, gave.
     pub(crate) fn given(&self) -> &[u8]
-        ensures { (s : SessionValue) → StandsFor self.now s → result.now ≡ out_of s }
+        ensures { (s : SessionValue) → StandsFor self.now s → result.now ≡ session_out s }
     {
         match self {
             Session::Sealing(sealer) => sealer.out(),
@@ -39,7 +41,7 @@ impl Session {
 
     /// What a message begins with that is sealed; nothing, of one that is opened.
     pub(crate) fn header(&self) -> &[u8]
-        ensures { (s : SessionValue) → StandsFor self.now s → result.now ≡ header_of s }
+        ensures { (s : SessionValue) → StandsFor self.now s → result.now ≡ sealed_header s }
     {
         match self {
             Session::Sealing(sealer) => sealer.header(),
@@ -59,9 +61,9 @@ impl Session {
 
     /// Ends the message.
     pub(crate) fn finish(&mut self) -> Result<(), DeskError>
-        ensures answer { (s : SessionValue) → StandsFor self.old s → result ≡ finish_answer s }
+        ensures answer { (s : SessionValue) → StandsFor self.old s → result ≡ desk_finish_answer s }
         ensures stands { (s : SessionValue) → StandsFor self.old s
-            → StandsFor self.new (finished s) }
+            → StandsFor self.new (desk_finished s) }
     {
         match self {
             Session::Sealing(sealer) => match sealer.finish() {

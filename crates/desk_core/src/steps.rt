@@ -1,14 +1,15 @@
 //! A step of one session, which is recorded where the manager answered in it.
 
-ghost use Rattle.std.specs.Prelude.{◌≡◌, ℕ, ◌++◌, ◌-◌, ◌<◌, ◌≤◌, length, vec_len, vec_capacity, Option, Some, None, IfOk};
+ghost use Rattle.std.specs.Prelude.{◌≡◌, ℕ, ◌++◌, ◌-◌, ◌<◌, ◌≤◌, length, vec_len, vec_capacity};
+ghost use Rattle.std.specs.Prelude.{Option, Some, None, IfOk};
 ghost use Rattle.keyring_trait.specs.declared.journal.Kind.TheVariants.{Unseal};
 ghost use Rattle.keyring_trait.specs.Manager.{Went};
 ghost use Rattle.stream_open.specs.Session.{OpeningValue, asked_header};
 ghost use Rattle.stream_open.specs.Stands.{Stands};
-ghost use Rattle.desk_core.specs.Session.{SessionValue, Opening, asked_by};
+ghost use Rattle.desk_core.specs.Session.{SessionValue, Opening, header_asked_about};
 ghost use Rattle.desk_core.specs.Desk.{lines_of};
 ghost use Rattle.desk_core.specs.Stands.{StandsFor, IsLive, AreLive, machine_at, work_in};
-ghost use Rattle.desk_core.specs.Steps.{Steps, StepsAt, StepsOpener};
+ghost use Rattle.desk_core.specs.Steps.{DeskSteps, StepsAt, StepsOpener};
 
 use crate::errors::DeskError;
 use crate::session::{Session, opener_failed, sealer_failed};
@@ -39,7 +40,7 @@ pub(crate) fn step_at<M: Manager>(
         (machine_at sessions.old id) (length piece.now)) }
     ensures went { Went (M.state manager.old) (M.state manager.new) }
     ensures unasked { (live : ℕ → Option SessionValue) → AreLive sessions.old live
-        → asked_by (live id) piece.now ≡ None → manager.new ≡ manager.old }
+        → header_asked_about (live id) piece.now ≡ None → manager.new ≡ manager.old }
 {
     // Where the manager isn't asked, it stays as it is: `wraps` says what that keeps.
     let _wraps = manager.wraps();
@@ -69,7 +70,8 @@ fn step<M: Manager>(
 ) -> Result<usize, DeskError>
     requires { Went (M.state manager.old) (M.state manager.old) }
     ensures steps { (s : SessionValue) → StandsFor session.old s → IsLive s
-        → Steps (M.state manager.old) (M.state manager.new) s id now piece.now result session.new
+        → DeskSteps (M.state manager.old) (M.state manager.new) s id now piece.now result
+        session.new
         journal.old.items journal.new.items }
     ensures within { (s : SessionValue) → StandsFor session.old s
         → IfOk result (λ used. used ≤ length piece.now) }
@@ -79,7 +81,7 @@ fn step<M: Manager>(
         (length piece.now)) }
     ensures went { Went (M.state manager.old) (M.state manager.new) }
     ensures unasked { (s : SessionValue) → StandsFor session.old s
-        → asked_by (Some s) piece.now ≡ None → manager.new ≡ manager.old }
+        → header_asked_about (Some s) piece.now ≡ None → manager.new ≡ manager.old }
 {
     match session {
         Session::Sealing(sealer) => match sealer.step(piece) {
@@ -103,7 +105,7 @@ fn step_opener<M: Manager>(
 ) -> Result<usize, DeskError>
     requires { Went (M.state manager.old) (M.state manager.old) }
     ensures steps { (v : OpeningValue) → Stands opener.old v → IsLive (Opening v)
-        → Steps (M.state manager.old) (M.state manager.new) (Opening v) id now piece.now result
+        → DeskSteps (M.state manager.old) (M.state manager.new) (Opening v) id now piece.now result
         (Session.Opening opener.new) journal.old.items journal.new.items }
     ensures within { (v : OpeningValue) → Stands opener.old v
         → IfOk result (λ used. used ≤ length piece.now) }
@@ -162,7 +164,7 @@ fn step_locked<M: Manager>(
     requires manager { Went (M.state manager.old) (M.state manager.old) }
     requires room { vec_len journal.old < vec_capacity journal.old }
     ensures steps { (v : OpeningValue) → Stands opener.old v → IsLive (Opening v) → v.served ≡ None
-        → Steps (M.state manager.old) (M.state manager.new) (Opening v) id now piece.now result
+        → DeskSteps (M.state manager.old) (M.state manager.new) (Opening v) id now piece.now result
         (Session.Opening opener.new) journal.old.items journal.new.items }
     ensures within { (v : OpeningValue) → Stands opener.old v
         → IfOk result (λ used. used ≤ length piece.now) }

@@ -2,12 +2,12 @@
 -- "Encrypted Data Key Entries".
 use Rattle.std.specs.Prelude.{◌≡◌, Option, Some, None, Result, Ok, Err}
 use Rattle.esdk_fields.specs.Place.{Place}
-use Rattle.esdk_fields.specs.Reading.{Reading, Read, Wanting, Reader, ◌>>=◌, done}
+use Rattle.esdk_fields.specs.Reading.{Reading, Read, Wanting, FieldReader, ◌>>=◌, done}
 use Rattle.esdk_fields.specs.Sized.{sized_bytes}
 use Rattle.edk_codec.specs.Entry.{Entry}
 
-unfoldable pub entry : Reader Entry
-entry = do
+unfoldable pub entry_reader : FieldReader Entry
+entry_reader = do
   provider ← sized_bytes
   info ← sized_bytes
   cipher ← sized_bytes
@@ -21,6 +21,6 @@ ReadsPart view None new reading = reading ≡ Wanting
 -- A whole entry was read, and the cursor stands behind it. Else, and where memory ran out, the
 -- cursor stays.
 abbrev pub ReadsEntry : {E : Type 0} → Result (Option Entry) E → Place → Place → Type 0
-ReadsEntry (Ok (Some e)) old new = entry old ≡ Read e new
-ReadsEntry (Ok None) old new = (entry old ≡ Wanting) × (new ≡ old)
+ReadsEntry (Ok (Some e)) old new = entry_reader old ≡ Read e new
+ReadsEntry (Ok None) old new = (entry_reader old ≡ Wanting) × (new ≡ old)
 ReadsEntry (Err e) old new = new ≡ old

@@ -2,7 +2,8 @@
 -- entries are fed alike to a hasher.
 use Rattle.std.specs.Prelude.{◌≡◌, Bool, true, ◌&&◌, ◌++◌, nat_eq, Decides}
 use Rattle.std.proofs.Common.{ap}
-use Rattle.std.specs.Cmp.{IsEquivalence, IsPartialEquivalence, partial_equiv_from_equiv, decided, first_so, second_so}
+use Rattle.std.specs.Cmp.{IsEquivalence, IsPartialEquivalence, partial_equiv_from_equiv, decided}
+use Rattle.std.specs.Cmp.{first_so, second_so}
 use Rattle.std.specs.Cmp.Lexicographic.{pointwise, bytes_decides}
 use Rattle.std.specs.Hash as fed
 use Rattle.edk_codec.specs.Entry.{Entry}

@@ -2,7 +2,8 @@
 
 ghost use Rattle.std.specs.Prelude.{◌≡◌, ◌≤◌, length, IfOk};
 ghost use Rattle.edk_codec.specs.Entry.{IsEntry};
-ghost use Rattle.edk_codec.specs.Equal.{entry_eq, entry_equiv, entry_partial, entry_hash, entry_fed};
+ghost use Rattle.edk_codec.specs.Equal.{entry_eq, entry_equiv, entry_partial, entry_hash};
+ghost use Rattle.edk_codec.specs.Equal.{entry_fed};
 
 use std::alloc::{AllocError, Global};
 use std::hash::{Hash, Hasher};

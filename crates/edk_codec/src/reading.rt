@@ -2,7 +2,7 @@
 
 ghost use Rattle.std.specs.Prelude.{IfSome};
 ghost use Rattle.edk_codec.specs.Entry.{IsEntry};
-ghost use Rattle.edk_codec.specs.EntryReader.{entry, ReadsPart, ReadsEntry};
+ghost use Rattle.edk_codec.specs.EntryReader.{entry_reader, ReadsPart, ReadsEntry};
 ghost use Rattle.edk_codec.specs.Parts.{parts_view};
 
 use crate::entries::DataKeyEntry;
@@ -18,9 +18,9 @@ struct Parts<'a> {
 }
 
 /// Reads the three parts of an entry. None exactly where they aren't whole.
-#[tactic(auto, unfolding(crate::specs::EntryReader::entry))]
+#[tactic(auto, unfolding(crate::specs::EntryReader::entry_reader))]
 fn parts_of<'a>(cursor: &mut Cursor<'a>) -> Option<Parts<'a>>
-    ensures reads { ReadsPart parts_view result cursor.new (entry cursor.old) }
+    ensures reads { ReadsPart parts_view result cursor.new (entry_reader cursor.old) }
     ensures short { IfSome result (λ parts. IsEntry (parts_view parts)) }
 {
     let provider = sized_of(cursor).ok()?;

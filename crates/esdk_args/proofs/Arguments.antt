@@ -11,9 +11,9 @@ use Rattle.esdk_args.specs.declared.options.ValueOption.{ValueOption}
 use Rattle.esdk_args.specs.declared.options.ValueOption.TheVariants.{Name, Number}
 use Rattle.esdk_args.specs.declared.request.WordsFault.{WordsFault}
 use Rattle.esdk_args.specs.declared.request.WordsFault.TheVariants.{NotRead, BadNumber, BadPair, Memory}
-use Rattle.esdk_args.specs.Numbers.{number_of}
+use Rattle.esdk_args.specs.Numbers.{option_number}
 use Rattle.esdk_args.specs.PairWords.{bad_pair, pairs_of}
-use Rattle.esdk_args.specs.Spelling.{HasBadValue, HasFault, IsFirstFault, IsGood, IsGoodValue, MayGive, Says, SaysValue}
+use Rattle.esdk_args.specs.Spelling.{HasBadValue, ArgumentHasFault, IsFirstFault, IsGood, IsGoodValue, MayGive, Says, SaysValue}
 use Rattle.esdk_args.specs.Values.{Given, Values, argument_fault, first_fault, given_of, value_fault}
 use Rattle.esdk_args.proofs.Numerals.{number_bad, number_read, number_refused, number_writes}
 use Rattle.esdk_args.proofs.Pairs.{first_bad_is, first_bad_named, pairs_named, pairs_read, pairs_taken}
@@ -39,7 +39,7 @@ good_fault values Pairs good = ap (option_map (λ n. BadPair n)) (ap bad_pair go
 -- ---- words without a fault say what is read
 
 -- the number that is read of a word
-says_number : (option : OptionName) (word : List ℕ) (read : Option ℕ) → number_of option word ≡ read → unless_read option read ≡ None
+says_number : (option : OptionName) (word : List ℕ) (read : Option ℕ) → option_number option word ≡ read → unless_read option read ≡ None
     → MayGive option (Some word) read
 says_number option word (Some n) is none = number_writes option word n is
 says_number option word None is none = absurd cc
@@ -50,9 +50,9 @@ says_value values (Name option) none = refl
 says_value values (Number option) none = by_word (values.words (Number option)) none
   where
     by_word : (word : Option (List ℕ)) → value_fault (Number option) word ≡ None
-        → MayGive option word (option_and_then (number_of option) word)
+        → MayGive option word (option_and_then (option_number option) word)
     by_word None none = refl
-    by_word (Some word) none = says_number option word (number_of option word) refl none
+    by_word (Some word) none = says_number option word (option_number option word) refl none
 
 -- a required option has a word
 abbrev pub IsThere : Values → Argument → Type 0
@@ -102,8 +102,8 @@ Agree one other (Flag flag) = one.flags flag ≡ other.flags flag
 Agree one other Pairs = one.pairs ≡ other.pairs
 
 number_said : (option : OptionName) (word : Option (List ℕ)) (n : Option ℕ) → MayGive option word n
-    → option_and_then (number_of option) word ≡ n
-number_said option word None says = ap (option_and_then (number_of option)) says
+    → option_and_then (option_number option) word ≡ n
+number_said option word None says = ap (option_and_then (option_number option)) says
 number_said option None (Some n) says = absurd says
 number_said option (Some word) (Some n) says = number_read option word n says
 
@@ -119,7 +119,7 @@ says_agree values given Pairs says = pairs_read values.pairs given.pairs says
 -- ---- faults
 
 -- a word with this fault is bad
-read_fault : (option : OptionName) (word : List ℕ) (read : Option ℕ) (fault : WordsFault) → number_of option word ≡ read
+read_fault : (option : OptionName) (word : List ℕ) (read : Option ℕ) (fault : WordsFault) → option_number option word ≡ read
     → unless_read option read ≡ Some fault → HasBadValue (Number option) (Some word) fault
 read_fault option word (Some n) fault is e = absurd cc
 read_fault option word None fault is e =
@@ -131,7 +131,7 @@ value_has : (option : ValueOption) (word : Option (List ℕ)) (fault : WordsFaul
 value_has (Name option) None fault e = absurd cc
 value_has (Name option) (Some word) fault e = absurd cc
 value_has (Number option) None fault e = absurd cc
-value_has (Number option) (Some word) fault e = read_fault option word (number_of option word) fault refl e
+value_has (Number option) (Some word) fault e = read_fault option word (option_number option word) fault refl e
 
 pair_fault_is : (found : Option ℕ) (fault : WordsFault) → option_map (λ n. BadPair n) found ≡ Some fault
     → (n : ℕ) × (found ≡ Some n) × (BadPair n ≡ fault)
@@ -139,13 +139,13 @@ pair_fault_is None fault e = absurd cc
 pair_fault_is (Some n) fault e = (n, refl, cc)
 
 pub fault_has : (values : Values) (argument : Argument) (fault : WordsFault) → argument_fault values argument ≡ Some fault
-    → HasFault values fault argument
+    → ArgumentHasFault values fault argument
 fault_has values (Required option) fault e = value_has option (values.words option) fault e
 fault_has values (Optional option) fault e = value_has option (values.words option) fault e
 fault_has values (Flag flag) fault e = absurd cc
 fault_has values Pairs fault e =
     let t = pair_fault_is (bad_pair values.pairs) fault e in
-    subst (λ f. HasFault values f Pairs) t.2 (first_bad_is values.pairs t.0 t.1)
+    subst (λ f. ArgumentHasFault values f Pairs) t.2 (first_bad_is values.pairs t.0 t.1)
 
 -- a bad word has its fault
 bad_value : (option : ValueOption) (word : Option (List ℕ)) (fault : WordsFault) → HasBadValue option word fault
@@ -161,7 +161,7 @@ bad_value (Number option) None (BadNumber name) bad = absurd bad.1
 bad_value (Number option) (Some word) (BadNumber name) bad =
     ap (unless_read option) (number_bad option word bad.1) ∙ ap (λ o. Some (BadNumber o)) bad.0
 
-pub has_fault : (values : Values) (argument : Argument) (fault : WordsFault) → HasFault values fault argument
+pub has_fault : (values : Values) (argument : Argument) (fault : WordsFault) → ArgumentHasFault values fault argument
     → argument_fault values argument ≡ Some fault
 has_fault values (Required option) fault has = bad_value option (values.words option) fault has
 has_fault values (Optional option) fault has = bad_value option (values.words option) fault has
@@ -292,7 +292,7 @@ first_is values (argument ∷ row) fault e =
         }
 
 first_of_all : (values : Values) (before : List Argument) (bad : Argument) (behind : List Argument) (fault : WordsFault)
-    → Each (IsGood values) before → HasFault values fault bad → first_fault values (before ++ bad ∷ behind) ≡ Some fault
+    → Each (IsGood values) before → ArgumentHasFault values fault bad → first_fault values (before ++ bad ∷ behind) ≡ Some fault
 first_of_all values [] bad behind fault good has = ap (λ f. option_or f (first_fault values behind)) (has_fault values bad fault has)
 first_of_all values (argument ∷ before) bad behind fault good has =
     ap (λ f. option_or f (first_fault values (before ++ bad ∷ behind))) (good_fault values argument good.0)

@@ -11,19 +11,19 @@ use Rattle.esdk_args.specs.declared.request.Request.{Request}
 use Rattle.esdk_args.specs.declared.request.WordsFault.{WordsFault}
 use Rattle.esdk_args.specs.Commands.{app_of_command, arguments}
 use Rattle.esdk_args.specs.Faults.{AnswersWords}
-use Rattle.esdk_args.specs.Numbers.{number_of}
+use Rattle.esdk_args.specs.Numbers.{option_number}
 use Rattle.esdk_args.specs.Options.{greatest, least}
 use Rattle.esdk_args.specs.Building.{request_from}
 use Rattle.esdk_args.specs.Values.{Values, first_fault, given_of, values_in}
-use Rattle.esdk_args.specs.Words.{HasFrame, HasRange, HasSize, read_behind, unless_faulty, unless_refused}
+use Rattle.esdk_args.specs.Words.{HasFrame, HasRange, HasSize, read_behind, unless_faulty, unless_words_refused}
 use Rattle.esdk_args.proofs.Numerals.{number_writes}
 
 -- the number of an option is one that it takes
 in_range : (option : OptionName) (word : Option (List ℕ)) (other : ℕ) → least option ≤ other → other ≤ greatest option
-    → (least option ≤ unwrap_or (option_and_then (number_of option) word) other)
-    × (unwrap_or (option_and_then (number_of option) word) other ≤ greatest option)
+    → (least option ≤ unwrap_or (option_and_then (option_number option) word) other)
+    × (unwrap_or (option_and_then (option_number option) word) other ≤ greatest option)
 in_range option None other from upto = (from, upto)
-in_range option (Some word) other from upto = by_number (number_of option word) (λ n is. (number_writes option word n is).1) (λ n is. (number_writes option word n is).2)
+in_range option (Some word) other from upto = by_number (option_number option word) (λ n is. (number_writes option word n is).1) (λ n is. (number_writes option word n is).2)
   where
     by_number : (read : Option ℕ) → ((n : ℕ) → read ≡ Some n → least option ≤ n) → ((n : ℕ) → read ≡ Some n → n ≤ greatest option)
         → (least option ≤ unwrap_or read other) × (unwrap_or read other ≤ greatest option)
@@ -46,7 +46,7 @@ range_from name values = tt
 
 -- a request that is read is the command's
 read_is : (kinds : Kinds) (found : Option WordsFault) (request asked : Request)
-    → unless_refused kinds (unless_faulty found request) ≡ Ok asked → request ≡ asked
+    → unless_words_refused kinds (unless_faulty found request) ≡ Ok asked → request ≡ asked
 read_is [] None request asked e = cc
 read_is [] (Some fault) request asked e = absurd cc
 read_is (kind ∷ more) found request asked e = absurd cc

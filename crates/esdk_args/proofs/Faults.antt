@@ -8,7 +8,7 @@ use Rattle.esdk_args.specs.declared.request.Request.{Request}
 use Rattle.esdk_args.specs.declared.request.WordsFault.{WordsFault}
 use Rattle.esdk_args.specs.declared.request.WordsFault.TheVariants.{NotRead, Memory}
 use Rattle.esdk_args.specs.Commands.{arguments}
-use Rattle.esdk_args.specs.Spelling.{AreNotRead, HasFault, HaveFault}
+use Rattle.esdk_args.specs.Spelling.{AreNotRead, ArgumentHasFault, HaveFault}
 use Rattle.esdk_args.specs.Building.{request_from}
 use Rattle.esdk_args.specs.Values.{Values, first_fault, given_of}
 use Rattle.esdk_args.specs.Words.{unless_faulty, words_of}
@@ -39,7 +39,7 @@ are_faulty words fault e = by_kind (kind words)
     by_kind (of_none none is) = not_read (inl none) (cc (sym is ∙ e))
 
 -- no argument has another fault
-no_refusal : (values : Values) (argument : Argument) → HasFault values NotRead argument → ⊥
+no_refusal : (values : Values) (argument : Argument) → ArgumentHasFault values NotRead argument → ⊥
 no_refusal values (Required (Name option)) has = has
 no_refusal values (Required (Number option)) has = has
 no_refusal values (Optional (Name option)) has = has
@@ -47,7 +47,7 @@ no_refusal values (Optional (Number option)) has = has
 no_refusal values (Flag flag) has = has
 no_refusal values Pairs has = has
 
-no_want : (values : Values) (argument : Argument) → HasFault values Memory argument → ⊥
+no_want : (values : Values) (argument : Argument) → ArgumentHasFault values Memory argument → ⊥
 no_want values (Required (Name option)) has = has
 no_want values (Required (Number option)) has = has
 no_want values (Optional (Name option)) has = has

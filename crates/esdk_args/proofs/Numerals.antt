@@ -12,8 +12,8 @@ use Rattle.std.proofs.lemmas.Str.Parse.{IsNumeralModel, numerals_by_weight}
 use Rattle.std.proofs.lemmas.Fmt.{digits_decimal, digits_value-decimal, decimal_nonempty}
 use Rattle.esdk_args.specs.declared.options.OptionName.{OptionName}
 use Rattle.esdk_args.specs.Options.{greatest, least}
-use Rattle.esdk_args.specs.Numbers.{decimal_value, is_numeral, number_of}
-use Rattle.esdk_args.specs.Spelling.{Writes, WritesFor}
+use Rattle.esdk_args.specs.Numbers.{decimal_value, is_numeral, option_number}
+use Rattle.esdk_args.specs.Spelling.{SpellsNumber, WritesFor}
 
 -- all bytes are digits
 abbrev pub AreDigits : List ℕ → Type 0
@@ -31,7 +31,7 @@ digit_of c e = let t = and_parts (nat_le 48 c) (nat_le c 57) e in (leb-true 48 c
 digit_is : (c : ℕ) → IsInRange 48 57 c → is_ascii_digit c ≡ true
 digit_is c r = and_from (nat_le 48 c) (nat_le c 57) (le-leb 48 c r.0) (le-leb c 57 r.1)
 
-pub writes : (word : List ℕ) → is_numeral word ≡ true → Writes word (decimal_value word)
+pub writes : (word : List ℕ) → is_numeral word ≡ true → SpellsNumber word (decimal_value word)
 writes word e =
     let t = and_parts (nat_le 1 (length word) && nat_le (length word) 20) (list_all is_ascii_digit word) e in
     let lengths = and_parts (nat_le 1 (length word)) (nat_le (length word) 20) t.0 in
@@ -42,10 +42,10 @@ writes word e =
       value = refl;
     }
 
-pub are_digits : (word : List ℕ) (n : ℕ) → Writes word n → AreDigits word
+pub are_digits : (word : List ℕ) (n : ℕ) → SpellsNumber word n → AreDigits word
 are_digits word n w = list_all-from_AllPass is_ascii_digit word (λ k d lt. digit_is (get_or word k d) (w.digits k d lt))
 
-pub is_numeral_when : (word : List ℕ) (n : ℕ) → Writes word n → is_numeral word ≡ true
+pub is_numeral_when : (word : List ℕ) (n : ℕ) → SpellsNumber word n → is_numeral word ≡ true
 is_numeral_when word n w = rw (le-leb 1 (length word) w.some, le-leb (length word) 20 w.short, are_digits word n w) refl
 
 -- ---- the number of an option
@@ -77,20 +77,20 @@ passes_when name word n w =
     (le-leb v (greatest name) (omega (arith, e, w.2)))
 
 pub number_read : (name : OptionName) (word : List ℕ) (n : ℕ) → WritesFor name word n
-    → number_of name word ≡ Some n
-unfolding number_of
+    → option_number name word ≡ Some n
+unfolding option_number
 number_read name word n w = rw (passes_when name word n w, w.0.value) refl
 
-pub number_writes : (name : OptionName) (word : List ℕ) (n : ℕ) → number_of name word ≡ Some n
+pub number_writes : (name : OptionName) (word : List ℕ) (n : ℕ) → option_number name word ≡ Some n
     → WritesFor name word n
-unfolding number_of
+unfolding option_number
 number_writes name word n e =
     let t = chosen (passes name word) (decimal_value word) n e in
     subst (WritesFor name word) t.1 (passed name word t.0)
 
 pub number_bad : (name : OptionName) (word : List ℕ) → ((n : ℕ) → ¬ (WritesFor name word n))
-    → number_of name word ≡ None
-unfolding number_of
+    → option_number name word ≡ None
+unfolding option_number
 number_bad name word other =
     rw (false_from_ne_true (passes name word) (λ e. other (decimal_value word) (passed name word e)))
     refl
@@ -98,9 +98,9 @@ number_bad name word other =
 true_other : true ≡ false → ⊥
 true_other e = cc
 
-pub number_refused : (name : OptionName) (word : List ℕ) → number_of name word ≡ None
+pub number_refused : (name : OptionName) (word : List ℕ) → option_number name word ≡ None
     → (n : ℕ) → ¬ (WritesFor name word n)
-unfolding number_of
+unfolding option_number
 number_refused name word e n w = true_other
     (sym (passes_when name word n w) ∙ refused (passes name word) (decimal_value word) e)
 
@@ -118,7 +118,7 @@ zero_digits : (zeros : ℕ) → AreDigits (replicate zeros 48)
 zero_digits zero = refl
 zero_digits (suc zeros) = zero_digits zeros
 
-pub written : (n zeros : ℕ) → n < 2 ^ 64 → zeros + length (decimal n) ≤ 20 → Writes (replicate zeros 48 ++ decimal n) n
+pub written : (n zeros : ℕ) → n < 2 ^ 64 → zeros + length (decimal n) ≤ 20 → SpellsNumber (replicate zeros 48 ++ decimal n) n
 written n zeros small short =
     let word = replicate zeros 48 ++ decimal n in
     let long : length word ≡ zeros + length (decimal n) = length-append (replicate zeros 48) (decimal n) ∙ ap (λ k. k + length (decimal n)) (length-replicate zeros 48) in

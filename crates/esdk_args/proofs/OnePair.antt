@@ -8,7 +8,7 @@ use Rattle.std.proofs.lemmas.List.Elements.{All-append, All-cons, All-nil, All-s
 use Rattle.std.proofs.lemmas.Option.{cond_some}
 use Rattle.esdk_args.specs.declared.pair_words.PairWord.{PairWord}
 use Rattle.esdk_args.specs.PairWords.{key_part, value_part, pair_of}
-use Rattle.esdk_args.specs.Spelling.{IsPair, colon_text, value_text, pair_text}
+use Rattle.esdk_args.specs.Spelling.{IsPair, colon_text, value_text, pair_word_text}
 use Rattle.esdk_args.proofs.Splits.{IsPlain, IsUnended, key_is, value_is, splits, required_is, stripped_is, ends}
 
 -- whether these parts are those of a pair
@@ -34,7 +34,7 @@ colon_plain true = All-cons (λ b. b ≢ 61) 58 [] (λ e. omega (arith, e)) (All
 colon_plain false = All-nil (λ b. b ≢ 61)
 
 -- the word of a pair names it
-pub pair_read : (pair : PairWord) → IsPair pair → pair_of (pair_text pair) ≡ Some pair
+pub pair_read : (pair : PairWord) → IsPair pair → pair_of (pair_word_text pair) ≡ Some pair
 unfolding pair_of
 pair_read pair is =
     let front = pair.key ++ colon_text pair.required in
@@ -55,7 +55,7 @@ optional_value false value either optional = either
 
 -- a word and the pair that its parts are
 pub record NamesThis (word : List ℕ) (pair : PairWord) : Type 0 where
-  pub is : word ≡ pair_text pair
+  pub is : word ≡ pair_word_text pair
   pub fits : IsPair pair
 
 named_with : (word key : List ℕ) (required : Bool) (value : Option (List ℕ)) (front : List ℕ) → word ≡ front ++ value_text value → IsPlain front → front ≡ key ++ colon_text required
@@ -85,7 +85,7 @@ pair_named word pair e =
     subst (NamesThis word) t.1 (named_with word key required (value_part word) front split.is split.plain ended.is ended.unended t.0)
 
 -- a word that names no pair
-pub no_pair : (word : List ℕ) → ((pair : PairWord) → IsPair pair → word ≢ pair_text pair) → pair_of word ≡ None
+pub no_pair : (word : List ℕ) → ((pair : PairWord) → IsPair pair → word ≢ pair_word_text pair) → pair_of word ≡ None
 no_pair word other = none_of (pair_of word) refl
   where
     none_of : (found : Option PairWord) → pair_of word ≡ found → pair_of word ≡ None

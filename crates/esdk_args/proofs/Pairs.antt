@@ -9,7 +9,7 @@ use Rattle.std.proofs.lemmas.List.Elements.{All-cons, All-head, All-nil, All-tai
 use Rattle.std.proofs.lemmas.List.Sums.{fails_before_first, passes_at_first, position_or_len_is}
 use Rattle.esdk_args.specs.declared.pair_words.PairWord.{PairWord}
 use Rattle.esdk_args.specs.PairWords.{bad_pair, number_after, pair_of, pairs_before, pairs_of}
-use Rattle.esdk_args.specs.Spelling.{ArePairs, IsFirstBadPair, IsPair, pair_text}
+use Rattle.esdk_args.specs.Spelling.{ArePairs, IsFirstBadPair, IsPair, pair_word_text}
 use Rattle.esdk_args.proofs.OnePair.{pair_named, pair_read, no_pair}
 
 -- ---- so many words name pairs
@@ -57,41 +57,41 @@ pairs_more words n lt =
 -- ---- from pairs to their words
 
 -- the words of these pairs name pairs
-name_all : (pairs : List PairWord) → All IsPair pairs → NamePairs (map pair_text pairs) (length pairs)
+name_all : (pairs : List PairWord) → All IsPair pairs → NamePairs (map pair_word_text pairs) (length pairs)
 name_all [] all k lt = absurd (omega (arith, lt))
 name_all (pair ∷ pairs) all zero lt = ap is_none (pair_read pair (All-head IsPair pair pairs all))
 name_all (pair ∷ pairs) all (suc k) lt = name_all pairs (All-tail IsPair pair pairs all) k (omega (arith, lt))
 
 -- they name these pairs
-pairs_back : (pairs : List PairWord) → All IsPair pairs → filter_map pair_of (map pair_text pairs) ≡ pairs
+pairs_back : (pairs : List PairWord) → All IsPair pairs → filter_map pair_of (map pair_word_text pairs) ≡ pairs
 pairs_back [] all = refl
 pairs_back (pair ∷ pairs) all = rw (pair_read pair (All-head IsPair pair pairs all), pairs_back pairs (All-tail IsPair pair pairs all)) refl
 
 -- the words of pairs are good, and read as these pairs
-pub pairs_taken : (pairs : List PairWord) → All IsPair pairs → bad_pair (map pair_text pairs) ≡ None
+pub pairs_taken : (pairs : List PairWord) → All IsPair pairs → bad_pair (map pair_word_text pairs) ≡ None
 pairs_taken pairs all =
-    pairs_good (map pair_text pairs) (rw (length-map pairs pair_text) (name_all pairs all))
+    pairs_good (map pair_word_text pairs) (rw (length-map pairs pair_word_text) (name_all pairs all))
 
 pub pairs_read : (words : List (List ℕ)) (pairs : List PairWord) → ArePairs words pairs
     → pairs_of words ≡ pairs
 pairs_read words pairs are = ap pairs_of are.0 ∙ pairs_back pairs are.1
 
 -- a word behind them
-bad_at : (pairs : List PairWord) (bad : List ℕ) (behind : List (List ℕ)) → get_or (map pair_text pairs ++ bad ∷ behind) (length pairs) [] ≡ bad
-bad_at pairs bad behind = get_or_at (map pair_text pairs) bad behind [] (length pairs) (length-map pairs pair_text)
+bad_at : (pairs : List PairWord) (bad : List ℕ) (behind : List (List ℕ)) → get_or (map pair_word_text pairs ++ bad ∷ behind) (length pairs) [] ≡ bad
+bad_at pairs bad behind = get_or_at (map pair_word_text pairs) bad behind [] (length pairs) (length-map pairs pair_word_text)
 
-bad_within : (pairs : List PairWord) (bad : List ℕ) (behind : List (List ℕ)) → length pairs < length (map pair_text pairs ++ bad ∷ behind)
-bad_within pairs bad behind = omega (arith, length-append (map pair_text pairs) (bad ∷ behind), length-map pairs pair_text)
+bad_within : (pairs : List PairWord) (bad : List ℕ) (behind : List (List ℕ)) → length pairs < length (map pair_word_text pairs ++ bad ∷ behind)
+bad_within pairs bad behind = omega (arith, length-append (map pair_word_text pairs) (bad ∷ behind), length-map pairs pair_word_text)
 
-name_before : (pairs : List PairWord) (bad : List ℕ) (behind : List (List ℕ)) → All IsPair pairs → NamePairs (map pair_text pairs ++ bad ∷ behind) (length pairs)
+name_before : (pairs : List PairWord) (bad : List ℕ) (behind : List (List ℕ)) → All IsPair pairs → NamePairs (map pair_word_text pairs ++ bad ∷ behind) (length pairs)
 name_before pairs bad behind all k lt =
-    subst NamesPair (sym (get_or_append_left (map pair_text pairs) (bad ∷ behind) [] k (omega (arith, length-map pairs pair_text, lt)))) (name_all pairs all k lt)
+    subst NamesPair (sym (get_or_append_left (map pair_word_text pairs) (bad ∷ behind) [] k (omega (arith, length-map pairs pair_word_text, lt)))) (name_all pairs all k lt)
 
 -- the first word that names no pair, behind those of pairs, is bad
-bad_named : (pairs : List PairWord) (bad : List ℕ) (behind : List (List ℕ)) → All IsPair pairs → ((pair : PairWord) → IsPair pair → bad ≢ pair_text pair)
-    → bad_pair (map pair_text pairs ++ bad ∷ behind) ≡ Some (number_after (length pairs))
+bad_named : (pairs : List PairWord) (bad : List ℕ) (behind : List (List ℕ)) → All IsPair pairs → ((pair : PairWord) → IsPair pair → bad ≢ pair_word_text pair)
+    → bad_pair (map pair_word_text pairs ++ bad ∷ behind) ≡ Some (number_after (length pairs))
 bad_named pairs bad behind all other =
-    let words = map pair_text pairs ++ bad ∷ behind in
+    let words = map pair_word_text pairs ++ bad ∷ behind in
     let at = bad_at pairs bad behind in
     let lt = bad_within pairs bad behind in
     pairs_bad words (length pairs) lt (name_before pairs bad behind all) (ap pair_of at ∙ no_pair bad other)
@@ -107,7 +107,7 @@ first_bad_named words n b =
 
 -- the words are those of the pairs that they name
 pub record NameThese (words : List (List ℕ)) : Type 0 where
-  pub are : words ≡ map pair_text (filter_map pair_of words)
+  pub are : words ≡ map pair_word_text (filter_map pair_of words)
   pub pairs : All IsPair (filter_map pair_of words)
 
 these_more : (word : List ℕ) (words : List (List ℕ)) (found : Option PairWord) → pair_of word ≡ found → is_none found ≡ false → NameThese words → NameThese (word ∷ words)
@@ -115,7 +115,7 @@ these_more word words None is some rest = absurd cc
 these_more word words (Some pair) is some rest =
     let named = pair_named word pair is in
     record {
-      are = rw is (ap (λ w. w ∷ words) named.is ∙ ap (λ l. pair_text pair ∷ l) rest.are);
+      are = rw is (ap (λ w. w ∷ words) named.is ∙ ap (λ l. pair_word_text pair ∷ l) rest.are);
       pairs = rw is (All-cons IsPair pair (filter_map pair_of words) named.fits rest.pairs);
     }
 
@@ -163,7 +163,7 @@ bad_there : (words : List (List ℕ)) (n : ℕ) → n < length words → NamePai
 bad_there words n lt good none =
     let named = these (take n words) (front_is words n lt good) in
     let before = filter_map pair_of (take n words) in
-    let long : length before ≡ n = sym (length-map before pair_text) ∙ ap length (sym named.are) ∙ length-take-le n words (omega arith) in
+    let long : length before ≡ n = sym (length-map before pair_word_text) ∙ ap length (sym named.are) ∙ length-take-le n words (omega arith) in
     record {
       before = before;
       bad = get_or words n [];

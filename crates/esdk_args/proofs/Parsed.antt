@@ -8,8 +8,8 @@ use Rattle.std.proofs.lemmas.Str.Parse.{parse_digits}
 use Rattle.esdk_args.specs.declared.options.OptionName.{OptionName}
 use Rattle.esdk_args.specs.declared.options.OptionName.TheVariants.{Frame}
 use Rattle.esdk_args.specs.Options.{greatest, least}
-use Rattle.esdk_args.specs.Numbers.{decimal_value, is_numeral, number_of}
-use Rattle.esdk_args.specs.Spelling.{Writes}
+use Rattle.esdk_args.specs.Numbers.{decimal_value, is_numeral, option_number}
+use Rattle.esdk_args.specs.Spelling.{SpellsNumber}
 use Rattle.esdk_args.proofs.Numerals.{own, writes, are_digits, number_read, number_bad}
 
 greatest_fits : (name : OptionName) → greatest name < 2 ^ 64
@@ -33,17 +33,17 @@ unparsed_value word e numeral h =
 
 -- a value that is in the option's range, and one that isn't
 pub in_range : (name : OptionName) (word : List ℕ) (n : ℕ) → is_numeral word ≡ true
-    → decimal_value word ≡ n → least name ≤ n → n ≤ greatest name → number_of name word ≡ Some n
+    → decimal_value word ≡ n → least name ≤ n → n ≤ greatest name → option_number name word ≡ Some n
 in_range name word n numeral value from upto =
-    number_read name word n (subst (Writes word) value (writes word numeral), from, upto)
+    number_read name word n (subst (SpellsNumber word) value (writes word numeral), from, upto)
 
 pub out_of_range : (name : OptionName) (word : List ℕ) (n : ℕ) → decimal_value word ≡ n
-    → ((least name ≤ n) × (n ≤ greatest name) → ⊥) → number_of name word ≡ None
+    → ((least name ≤ n) × (n ≤ greatest name) → ⊥) → option_number name word ≡ None
 out_of_range name word n value out = number_bad name word (λ m w.
     let same : decimal_value word ≡ m = w.0.value in
     out (omega (arith, same, value, w.1), omega (arith, same, value, w.2)))
 
 pub too_great : (name : OptionName) (word : List ℕ) → 2 ^ 64 ≤ decimal_value word
-    → number_of name word ≡ None
+    → option_number name word ≡ None
 too_great name word past = out_of_range name word (decimal_value word) refl
     (λ r. omega (arith, past, r.1, greatest_fits name))

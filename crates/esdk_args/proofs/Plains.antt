@@ -10,7 +10,7 @@ use Rattle.esdk_args.specs.declared.commands.Argument.TheVariants.{Required, Opt
 use Rattle.esdk_args.specs.declared.commands.CommandName.{CommandName}
 use Rattle.esdk_args.specs.Commands.{app_of_command, arguments}
 use Rattle.esdk_args.specs.Options.{flag_name, value_name}
-use Rattle.esdk_args.specs.Plain.{IsPlain, IsValue, argument_words, flag_words, option_words}
+use Rattle.esdk_args.specs.Plain.{ArgumentIsPlain, IsValue, argument_words, flag_words, option_words}
 use Rattle.esdk_args.specs.Values.{Values, values_in}
 use Rattle.esdk_args.proofs.Arguments.{Each, IsThere, each_more}
 use Rattle.esdk_args.proofs.Ends.{IsFresh, IsKnown, Same, argument_rows, end_rows, ends, flag_rows, fresh, fresh_more, known, option_rows, test_both}
@@ -70,7 +70,7 @@ if_some (Some word) is = is
 
 -- the walk goes over the words of a row's arguments
 over_row : (name : CommandName) (values : Values) (row : List Argument) (settled : List Row) → Each (IsKnown name) row → is_row row ≡ true
-    → Each (IsFresh settled) row → Each (IsPlain values) row
+    → Each (IsFresh settled) row → Each (ArgumentIsPlain values) row
     → Onward name (flat_map (argument_words values) row) settled (settled ++ flat_map (argument_rows values) row)
 over_row name values [] settled known are fresh plain = λ rows pending ready. record {
   rows = rows;
@@ -117,7 +117,7 @@ over_row name values (Pairs ∷ argument ∷ row) settled known are fresh plain 
 
 -- ---- the words of a command
 
-there : (values : Values) (argument : Argument) → IsPlain values argument → IsThere values argument
+there : (values : Values) (argument : Argument) → ArgumentIsPlain values argument → IsThere values argument
 there values (Required option) plain = by_word (values.words option) plain
   where
     by_word : (word : Option (List ℕ)) → IsSomeAnd word IsValue → IsSome word
@@ -132,13 +132,13 @@ pub record IsTaken (name : CommandName) (behind : List (List ℕ)) (values : Val
   pub taken : fault_of (app_of_command name) behind ≡ []
   pub same : Each (Same (values_in (matches_of (app_of_command name) behind)) values) (arguments name)
 
-pub taken_plain : (name : CommandName) (values : Values) → Each (IsPlain values) (arguments name)
+pub taken_plain : (name : CommandName) (values : Values) → Each (ArgumentIsPlain values) (arguments name)
     → IsTaken name (flat_map (argument_words values) (arguments name)) values
 taken_plain name values plain =
     let behind = flat_map (argument_words values) (arguments name) in
     let reaches : Reaches (shape name) (walk_from nothing_held) behind (end_rows values name) =
     over_row name values (arguments name) [] (known name) (rows_differ name) (fresh (arguments name)) plain [] None (rows_ready (shape name) []) in
-    let end = ends name values (each_more (IsPlain values) (IsThere values) (arguments name) (there values) plain) in
+    let end = ends name values (each_more (ArgumentIsPlain values) (IsThere values) (arguments name) (there values) plain) in
     record {
       taken = fault_is name behind ∙ ends_fault (shape name) behind (end_rows values name) reaches ∙ end.fault;
       same = subst (λ rows. Each (Same (values_in rows) values) (arguments name))

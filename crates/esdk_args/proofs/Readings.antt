@@ -11,7 +11,7 @@ use Rattle.esdk_args.specs.declared.request.WordsFault.TheVariants.{NotRead}
 use Rattle.esdk_args.specs.Commands.{app_of_command, command_named, command_text, every_command}
 use Rattle.esdk_args.specs.Spelling.{AreRefused, AreTaken, NameNoCommand}
 use Rattle.esdk_args.specs.Values.{Values, values_in}
-use Rattle.esdk_args.specs.Words.{read_behind, request_of, unless_refused, words_of}
+use Rattle.esdk_args.specs.Words.{read_behind, request_of_words, unless_words_refused, words_of}
 use Rattle.esdk_args.proofs.Table.{named_back}
 
 -- ---- the command that words name
@@ -37,20 +37,20 @@ named_is word name e = (bytes_eq-Decides word (command_text name)).0
 
 -- words that begin with a command are read by it
 reads : (words behind : List (List ℕ)) (name : CommandName) → words ≡ command_text name ∷ behind
-    → words_of words ≡ unless_refused (fault_of (app_of_command name) behind)
-    (request_of name (values_in (matches_of (app_of_command name) behind)))
+    → words_of words ≡ unless_words_refused (fault_of (app_of_command name) behind)
+    (request_of_words name (values_in (matches_of (app_of_command name) behind)))
 unfolding words_of
 reads words behind name are = ap words_of are ∙ ap (λ found. read_behind found behind) (named_back name)
 
 -- words that `clap` takes ask for what their values ask for
 pub reads_taken : (name : CommandName) (words : List (List ℕ)) (values : Values) → AreTaken name words values
-    → words_of words ≡ request_of name values
+    → words_of words ≡ request_of_words name values
 reads_taken name words values form =
     reads words form.behind name form.are
-    ∙ ap (λ kinds. unless_refused kinds (request_of name (values_in (matches_of (app_of_command name) form.behind)))) form.taken
-    ∙ ap (request_of name) form.values_are
+    ∙ ap (λ kinds. unless_words_refused kinds (request_of_words name (values_in (matches_of (app_of_command name) form.behind)))) form.taken
+    ∙ ap (request_of_words name) form.values_are
 
-pub refused_with : (kinds : Kinds) (request : Result Request WordsFault) → kinds ≢ [] → unless_refused kinds request ≡ Err NotRead
+pub refused_with : (kinds : Kinds) (request : Result Request WordsFault) → kinds ≢ [] → unless_words_refused kinds request ≡ Err NotRead
 refused_with [] request some = absurd (some refl)
 refused_with (kind ∷ more) request some = refl
 
@@ -59,11 +59,11 @@ pub reads_refused : (words : List (List ℕ)) → AreRefused words → words_of 
 reads_refused words r =
     reads words r.behind r.name r.are
     ∙ refused_with (fault_of (app_of_command r.name) r.behind)
-    (request_of r.name (values_in (matches_of (app_of_command r.name) r.behind))) r.refused
+    (request_of_words r.name (values_in (matches_of (app_of_command r.name) r.behind))) r.refused
 
 -- what words are
 pub data Kind (words : List (List ℕ)) : Type 0 where
-  of_taken : (name : CommandName) (values : Values) → AreTaken name words values → words_of words ≡ request_of name values → Kind words
+  of_taken : (name : CommandName) (values : Values) → AreTaken name words values → words_of words ≡ request_of_words name values → Kind words
   of_refused : AreRefused words → words_of words ≡ Err NotRead → Kind words
   of_none : NameNoCommand words → words_of words ≡ Err NotRead → Kind words
 

@@ -13,13 +13,13 @@ use Rattle.esdk_args.specs.declared.request.Request.{Request}
 use Rattle.esdk_args.specs.declared.request.WordsFault.{WordsFault}
 use Rattle.esdk_args.specs.declared.request.WordsFault.TheVariants.{NotRead, BadPair}
 use Rattle.esdk_args.specs.Commands.{app_of_command, arguments}
-use Rattle.esdk_args.specs.Numbers.{number_of}
+use Rattle.esdk_args.specs.Numbers.{option_number}
 use Rattle.esdk_args.specs.PairWords.{bad_pair, pairs_of}
-use Rattle.esdk_args.specs.Plain.{AreForm, IsPlain, argument_words}
+use Rattle.esdk_args.specs.Plain.{AreForm, ArgumentIsPlain, argument_words}
 use Rattle.esdk_args.specs.Spelling.{Asks, Says}
 use Rattle.esdk_args.specs.Building.{request_from}
 use Rattle.esdk_args.specs.Values.{Given, Values, argument_fault, first_fault, given_of, value_fault, values_in}
-use Rattle.esdk_args.specs.Words.{request_of, unless_faulty, words_of}
+use Rattle.esdk_args.specs.Words.{request_of_words, unless_faulty, words_of}
 use Rattle.esdk_args.proofs.Arguments.{Agree, Each, IsFaultless, IsThere, all, each, each_both, each_more, fault_says, faultless, good_fault, no_fault, says_agree, says_good}
 use Rattle.esdk_args.proofs.Ends.{Same}
 use Rattle.esdk_args.proofs.Plains.{taken_plain}
@@ -96,14 +96,14 @@ same_fault one other (argument ∷ row) same =
 same_given : (one other : Values) (argument : Argument) → Same one other argument
     → Agree (given_of one) (given_of other) argument
 same_given one other (Required (Name option)) same = same
-same_given one other (Required (Number option)) same = ap (option_and_then (number_of option)) same
+same_given one other (Required (Number option)) same = ap (option_and_then (option_number option)) same
 same_given one other (Optional (Name option)) same = same
-same_given one other (Optional (Number option)) same = ap (option_and_then (number_of option)) same
+same_given one other (Optional (Number option)) same = ap (option_and_then (option_number option)) same
 same_given one other (Flag flag) same = same
 same_given one other Pairs same = ap pairs_of same
 
 same_request : (name : CommandName) (one other : Values) → Each (Same one other) (arguments name)
-    → request_of name one ≡ request_of name other
+    → request_of_words name one ≡ request_of_words name other
 same_request name one other same =
     ap (λ f. unless_faulty f (request_from name (given_of one))) (same_fault one other (arguments name) same)
     ∙ ap (unless_faulty (first_fault other (arguments name))) (from_same name (given_of one) (given_of other)
@@ -111,10 +111,10 @@ same_request name one other same =
 
 -- words in the plain form ask for what their values ask for
 pub plain_is_read : (name : CommandName) (words : List (List ℕ)) (values : Values) → AreForm name words values
-    → words_of words ≡ request_of name values
+    → words_of words ≡ request_of_words name values
 plain_is_read name words values form =
     let behind = flat_map (argument_words values) (arguments name) in
-    let t = taken_plain name values (each (IsPlain values) (arguments name) form.plain) in
+    let t = taken_plain name values (each (ArgumentIsPlain values) (arguments name) form.plain) in
     let found = values_in (matches_of (app_of_command name) behind) in
     reads_taken name words found (record { behind = behind; are = form.are; taken = t.taken; values_are = refl })
     ∙ same_request name found values t.same

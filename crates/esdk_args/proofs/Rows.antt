@@ -14,7 +14,7 @@ use Rattle.clap.specs.declared.parser.matches.MatchedArg.{MatchedArg}
 use Rattle.clap.proofs.WalkLemmas.{find_row}
 use Rattle.esdk_args.specs.declared.commands.CommandName.{CommandName}
 use Rattle.esdk_args.specs.Commands.{app_of_command}
-use Rattle.esdk_args.specs.Found.{Parses, refusal_of}
+use Rattle.esdk_args.specs.Found.{Parses, refusal_of_error}
 use Rattle.esdk_args.specs.Values.{source_in}
 
 -- where a value came from
@@ -27,7 +27,7 @@ source_rows f id = go (find (λ e. bytes_eq e.0.now id) f.entries.items) ∙ ap 
 
 -- an error that isn't want of memory is a refusal
 pub refuses : (name : CommandName) (words : List (List ℕ)) (kind : ErrorKind) → (kind ≡ OutOfMemory) ⊎ IsAmong kind (fault_of (app_of_command name) words)
-    → Parses name words (Err (refusal_of kind))
+    → Parses name words (Err (refusal_of_error kind))
 refuses name words OutOfMemory either = tt
 refuses name words kind (inl memory) = λ none. absurd cc
 refuses name words kind (inr among) = λ none. subst (IsAmong kind) none among

@@ -116,10 +116,7 @@ bare_app name = on_top (λ s. record s {
   disable_version_flag = true;
 }) (new_app name)
 
--- the command of `clap` with these arguments
-abbrev pub app_with : List ℕ → List Argument → App
-app_with name given = fold with_rule (bare_app name) (map argument_rule given)
-
 -- the command of `clap` that reads the words behind this command
 abbrev pub app_of_command : CommandName → App
-app_of_command name = app_with (command_text name) (arguments name)
+app_of_command name =
+    fold with_rule (bare_app (command_text name)) (map argument_rule (arguments name))

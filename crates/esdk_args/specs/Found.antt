@@ -22,9 +22,9 @@ pair_value parts = record {
 }
 
 -- what an error of `clap` of this kind comes to
-abbrev pub refusal_of : ErrorKind → WordsFault
-refusal_of OutOfMemory = Memory
-refusal_of kind = NotRead
+abbrev pub refusal_of_error : ErrorKind → WordsFault
+refusal_of_error OutOfMemory = Memory
+refusal_of_error kind = NotRead
 
 -- `clap` takes the words behind the command and finds these matches, or refuses them; want of
 -- memory may come at any time

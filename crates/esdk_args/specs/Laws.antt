@@ -9,9 +9,9 @@ use Rattle.esdk_args.specs.declared.request.WordsFault.TheVariants.{NotRead, Bad
 use Rattle.esdk_args.specs.declared.request.WordsFault.TheVariants.{Memory}
 use Rattle.esdk_args.specs.Commands.{app_of_command, required_options}
 use Rattle.esdk_args.specs.Plain.{AreForm}
-use Rattle.esdk_args.specs.Spelling.{AreNotRead, Asks, HaveFault, Writes}
+use Rattle.esdk_args.specs.Spelling.{AreNotRead, Asks, HaveFault, SpellsNumber}
 use Rattle.esdk_args.specs.Values.{Values}
-use Rattle.esdk_args.specs.Words.{request_of, words_of}
+use Rattle.esdk_args.specs.Words.{request_of_words, words_of}
 
 -- Words are read as a request exactly where they ask for it.
 abbrev pub ReadsRequests : Type 0
@@ -46,9 +46,9 @@ NeverMemory = (words : List (List ℕ)) → words_of words ≢ Err Memory
 -- Words in the plain form ask for what the values that they write ask for.
 abbrev pub ReadsPlainWords : Type 0
 ReadsPlainWords = (name : CommandName) (words : List (List ℕ)) (values : Values)
-    → AreForm name words values → words_of words ≡ request_of name values
+    → AreForm name words values → words_of words ≡ request_of_words name values
 
 -- A number below 2^64 in decimal, with zeros before it to at most 20 digits, writes that number.
 abbrev pub ReadsWrittenNumbers : Type 0
 ReadsWrittenNumbers = (n zeros : ℕ) → n < 2 ^ 64 → zeros + length (decimal n) ≤ 20
-    → Writes (replicate zeros 48 ++ decimal n) n
+    → SpellsNumber (replicate zeros 48 ++ decimal n) n

@@ -18,8 +18,8 @@ is_numeral word =
     nat_le 1 (length word) && nat_le (length word) 20 && list_all is_ascii_digit word
 
 -- the number that the option's word writes, where it is in the option's range
-unfoldable pub number_of : OptionName → List ℕ → Option ℕ
-number_of name word =
+unfoldable pub option_number : OptionName → List ℕ → Option ℕ
+option_number name word =
     if is_numeral word && nat_le (least name) (decimal_value word)
     && nat_le (decimal_value word) (greatest name) then Some (decimal_value word)
     else None

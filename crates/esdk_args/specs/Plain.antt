@@ -33,13 +33,13 @@ argument_words values (Flag flag) = flag_words (flag_name flag) (values.flags fl
 argument_words values Pairs = values.pairs
 
 -- none of an argument's values begins with `-`, and one that is required is there
-abbrev pub IsPlain : Values → Argument → Type 0
-IsPlain values (Required option) = IsSomeAnd (values.words option) IsValue
-IsPlain values (Optional option) = IfSome (values.words option) IsValue
-IsPlain values (Flag flag) = Unit {0}
-IsPlain values Pairs = All IsValue values.pairs
+abbrev pub ArgumentIsPlain : Values → Argument → Type 0
+ArgumentIsPlain values (Required option) = IsSomeAnd (values.words option) IsValue
+ArgumentIsPlain values (Optional option) = IfSome (values.words option) IsValue
+ArgumentIsPlain values (Flag flag) = Unit {0}
+ArgumentIsPlain values Pairs = All IsValue values.pairs
 
 -- The words are the command with these values of the arguments of its row.
 pub record AreForm (name : CommandName) (words : List (List ℕ)) (values : Values) : Type 0 where
   pub are : words ≡ command_text name ∷ flat_map (argument_words values) (arguments name)
-  pub plain : All (IsPlain values) (arguments name)
+  pub plain : All (ArgumentIsPlain values) (arguments name)

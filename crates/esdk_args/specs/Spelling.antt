@@ -23,7 +23,7 @@ use Rattle.esdk_args.specs.Values.{Given, Values, values_in}
 -- ---- one word
 
 -- The word writes this number: 1 to 20 digits, `0` (48) to `9` (57), of this decimal value.
-pub record Writes (word : List ℕ) (n : ℕ) : Type 0 where
+pub record SpellsNumber (word : List ℕ) (n : ℕ) : Type 0 where
   pub some : 1 ≤ length word
   pub short : length word ≤ 20
   pub digits : All (IsInRange 48 57) word
@@ -31,7 +31,7 @@ pub record Writes (word : List ℕ) (n : ℕ) : Type 0 where
 
 -- the word writes this number, which the option takes
 abbrev pub WritesFor : OptionName → List ℕ → ℕ → Type 0
-WritesFor name word n = Writes word n × (least name ≤ n) × (n ≤ greatest name)
+WritesFor name word n = SpellsNumber word n × (least name ≤ n) × (n ≤ greatest name)
 
 -- a colon (58), where the key is required
 abbrev pub colon_text : Bool → List ℕ
@@ -44,8 +44,8 @@ value_text (Some value) = 61 ∷ value
 value_text None = []
 
 -- the word that names a pair
-abbrev pub pair_text : PairWord → List ℕ
-pair_text pair = pair.key ++ colon_text pair.required ++ value_text pair.value
+abbrev pub pair_word_text : PairWord → List ℕ
+pair_word_text pair = pair.key ++ colon_text pair.required ++ value_text pair.value
 
 -- A word names this pair: its key isn't empty and has no `=`. A key that isn't required doesn't end
 -- in a colon, and has a value.
@@ -57,7 +57,7 @@ pub record IsPair (pair : PairWord) : Type 0 where
 
 -- The words are those of these pairs.
 abbrev pub ArePairs : List (List ℕ) → List PairWord → Type 0
-ArePairs words pairs = (words ≡ map pair_text pairs) × All IsPair pairs
+ArePairs words pairs = (words ≡ map pair_word_text pairs) × All IsPair pairs
 
 -- ---- what `clap` takes
 
@@ -131,9 +131,9 @@ pub record IsFirstBadPair (words : List (List ℕ)) (n : ℕ) : Type 0 where
   pub before : List PairWord
   pub bad : List ℕ
   pub behind : List (List ℕ)
-  pub are : words ≡ map pair_text before ++ bad ∷ behind
+  pub are : words ≡ map pair_word_text before ++ bad ∷ behind
   pub pairs : All IsPair before
-  pub no_pair : (pair : PairWord) → IsPair pair → bad ≢ pair_text pair
+  pub no_pair : (pair : PairWord) → IsPair pair → bad ≢ pair_word_text pair
   pub number : n ≡ min (length before + 1) (2 ^ 32 - 1)
 
 -- the words of this argument are good
@@ -149,11 +149,11 @@ HasBadValue (Number option) word (BadNumber name) = (option ≡ name) × IsBadNu
 HasBadValue option word fault = ⊥
 
 -- the words of this argument have this fault
-abbrev pub HasFault : Values → WordsFault → Argument → Type 0
-HasFault values fault (Required option) = HasBadValue option (values.words option) fault
-HasFault values fault (Optional option) = HasBadValue option (values.words option) fault
-HasFault values (BadPair n) Pairs = IsFirstBadPair values.pairs n
-HasFault values fault argument = ⊥
+abbrev pub ArgumentHasFault : Values → WordsFault → Argument → Type 0
+ArgumentHasFault values fault (Required option) = HasBadValue option (values.words option) fault
+ArgumentHasFault values fault (Optional option) = HasBadValue option (values.words option) fault
+ArgumentHasFault values (BadPair n) Pairs = IsFirstBadPair values.pairs n
+ArgumentHasFault values fault argument = ⊥
 
 -- Of these arguments, the first that isn't good has this fault.
 pub record IsFirstFault (values : Values) (row : List Argument) (fault : WordsFault) : Type 0 where
@@ -162,7 +162,7 @@ pub record IsFirstFault (values : Values) (row : List Argument) (fault : WordsFa
   pub behind : List Argument
   pub are : row ≡ before ++ bad ∷ behind
   pub good : All (IsGood values) before
-  pub has : HasFault values fault bad
+  pub has : ArgumentHasFault values fault bad
 
 -- `clap` takes the words, and the first argument of the command's row that isn't good has this
 -- fault.

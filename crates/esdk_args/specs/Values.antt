@@ -17,7 +17,7 @@ use Rattle.esdk_args.specs.declared.options.ValueOption.TheVariants.{Name, Numbe
 use Rattle.esdk_args.specs.declared.pair_words.PairWord.{PairWord}
 use Rattle.esdk_args.specs.declared.request.WordsFault.{WordsFault}
 use Rattle.esdk_args.specs.declared.request.WordsFault.TheVariants.{BadNumber, BadPair}
-use Rattle.esdk_args.specs.Numbers.{number_of}
+use Rattle.esdk_args.specs.Numbers.{option_number}
 use Rattle.esdk_args.specs.Options.{flag_name, value_name}
 use Rattle.esdk_args.specs.PairWords.{bad_pair, pairs_of}
 
@@ -56,7 +56,7 @@ values_of matches = values_in (rows_of (found_of matches))
 -- the fault of an option's word: a number that isn't one of the option's range
 abbrev pub value_fault : ValueOption → Option (List ℕ) → Option WordsFault
 value_fault (Number option) (Some word) =
-    if is_some (number_of option word) then None else Some (BadNumber option)
+    if is_some (option_number option word) then None else Some (BadNumber option)
 value_fault option word = None
 
 -- the fault of an argument
@@ -84,7 +84,7 @@ pub record Given : Type 0 where
 abbrev pub given_of : Values → Given
 given_of values = record {
   names = λ option. values.words (Name option);
-  numbers = λ option. option_and_then (number_of option) (values.words (Number option));
+  numbers = λ option. option_and_then (option_number option) (values.words (Number option));
   flags = values.flags;
   pairs = pairs_of values.pairs;
 }

@@ -22,22 +22,22 @@ unless_faulty None request = Ok request
 unless_faulty (Some fault) request = Err fault
 
 -- what the values of a command's words ask for
-abbrev pub request_of : CommandName → Values → Result Request WordsFault
-request_of name values = unless_faulty (first_fault values (arguments name))
+abbrev pub request_of_words : CommandName → Values → Result Request WordsFault
+request_of_words name values = unless_faulty (first_fault values (arguments name))
     (request_from name (given_of values))
 
 -- ---- the words
 
 -- where `clap` refuses the words, they ask for nothing
-abbrev pub unless_refused : Kinds → Result Request WordsFault → Result Request WordsFault
-unless_refused [] request = request
-unless_refused (kind ∷ more) request = Err NotRead
+abbrev pub unless_words_refused : Kinds → Result Request WordsFault → Result Request WordsFault
+unless_words_refused [] request = request
+unless_words_refused (kind ∷ more) request = Err NotRead
 
 -- what the words behind a command ask for
 abbrev pub read_behind : Option CommandName → List (List ℕ) → Result Request WordsFault
 read_behind None words = Err NotRead
-read_behind (Some name) words = unless_refused (fault_of (app_of_command name) words)
-    (request_of name (values_in (matches_of (app_of_command name) words)))
+read_behind (Some name) words = unless_words_refused (fault_of (app_of_command name) words)
+    (request_of_words name (values_in (matches_of (app_of_command name) words)))
 
 -- what the words ask for
 unfoldable pub words_of : List (List ℕ) → Result Request WordsFault

@@ -1,7 +1,9 @@
 //! The request of each command, of what its words say.
 
 ghost use Rattle.std.specs.Prelude.{◌≡◌, IfOk};
-ghost use Rattle.esdk_args.specs.declared.commands.CommandName.TheVariants.{List, Encrypt, Decrypt, Batch, Gen, Extract, Audit, Migrate, Reseal};
+ghost use Rattle.esdk_args.specs.declared.commands.CommandName.TheVariants.{List, Encrypt, Decrypt};
+ghost use Rattle.esdk_args.specs.declared.commands.CommandName.TheVariants.{Batch, Gen, Extract};
+ghost use Rattle.esdk_args.specs.declared.commands.CommandName.TheVariants.{Audit, Migrate, Reseal};
 ghost use Rattle.esdk_args.specs.Building.{request_from};
 ghost use Rattle.esdk_args.specs.Values.{given_of, values_of};
 

@@ -3,7 +3,8 @@
 ghost use Rattle.std.specs.Prelude.{◌≡◌, false, IfOk};
 ghost use Rattle.clap.specs.Words.{app_of, rule_of, with_rule};
 ghost use Rattle.esdk_args.specs.declared.commands.Argument.TheVariants.{Flag, Pairs};
-ghost use Rattle.esdk_args.specs.Commands.{app_of_command, argument_rule, arguments, bare_app, command_named, command_text, option_rule, required_rule};
+ghost use Rattle.esdk_args.specs.Commands.{app_of_command, argument_rule, arguments, bare_app};
+ghost use Rattle.esdk_args.specs.Commands.{command_named, command_text, option_rule, required_rule};
 
 use crate::options::{FlagOption, NameOption, OptionName, ValueOption, flag_name, value_name};
 use clap::{Arg, ArgAction, Command};

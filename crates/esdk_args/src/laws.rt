@@ -1,6 +1,8 @@
 //! Laws about words. A law is a function that does nothing: its contract is what is proved.
 
-ghost use Rattle.esdk_args.specs.Laws.{ReadsRequests, ReadsNoOthers, NamesBadNumbers, NamesBadPairs, NeverMemory, GivesRequired, ReadsPlainWords, ReadsWrittenNumbers};
+ghost use Rattle.esdk_args.specs.Laws.{ReadsRequests, ReadsNoOthers, NamesBadNumbers};
+ghost use Rattle.esdk_args.specs.Laws.{NamesBadPairs, NeverMemory, GivesRequired, ReadsPlainWords};
+ghost use Rattle.esdk_args.specs.Laws.{ReadsWrittenNumbers};
 
 /// Which words ask for which request.
 pub fn requests_are_read()

@@ -4,7 +4,7 @@ ghost use Rattle.std.specs.Prelude.{◌≡◌, ◌≤◌, IfSome};
 ghost use Rattle.std.specs.Char.{is_ascii_digit};
 ghost use Rattle.std.specs.List.{list_all};
 ghost use Rattle.esdk_args.specs.Options.{greatest, least};
-ghost use Rattle.esdk_args.specs.Numbers.{is_numeral, number_of};
+ghost use Rattle.esdk_args.specs.Numbers.{is_numeral, option_number};
 
 use crate::options::{OptionName, greatest, least};
 
@@ -13,9 +13,9 @@ const MOST_DIGITS: usize = 20;
 
 /// The number that the option's word writes. None where the word isn't 1 to 20 digits, or the
 /// number isn't in the option's range.
-#[tactic(auto, unfolding(crate::specs::Numbers::number_of))]
+#[tactic(auto, unfolding(crate::specs::Numbers::option_number))]
 pub(crate) fn number_of(name: OptionName, word: &str) -> Option<u64>
-    ensures read { result ≡ number_of name word.now }
+    ensures read { result ≡ option_number name word.now }
     ensures start { IfSome result (λ n. least name ≤ n) }
     ensures bound { IfSome result (λ n. n ≤ greatest name) }
 {

@@ -1,7 +1,8 @@
 //! The options, by what stands behind them: a name, a number, or nothing.
 
 ghost use Rattle.std.specs.Prelude.{◌≡◌};
-ghost use Rattle.esdk_args.specs.Options.{flag_name, option_name, option_text, value_name, least, greatest};
+ghost use Rattle.esdk_args.specs.Options.{flag_name, option_name, option_text, value_name, least};
+ghost use Rattle.esdk_args.specs.Options.{greatest};
 
 /// An option that takes a name.
 #[derive(Clone, Copy)]

@@ -4,7 +4,8 @@ ghost use Rattle.std.specs.Prelude.{◌≡◌, IfOk, map};
 ghost use Rattle.std.specs.Option.{option_map};
 ghost use Rattle.std.specs.Io.BufRead.{ends_with_byte, strip_last};
 ghost use Rattle.esdk_args.specs.Found.{pair_value};
-ghost use Rattle.esdk_args.specs.PairWords.{bad_pair, key_part, value_part, pair_of, number_after, pairs_of};
+ghost use Rattle.esdk_args.specs.PairWords.{bad_pair, key_part, value_part, pair_of, number_after};
+ghost use Rattle.esdk_args.specs.PairWords.{pairs_of};
 
 use esdk_fields::Text;
 use std::alloc::{AllocError, Global};

@@ -1,7 +1,7 @@
 //! The words behind a command, as `clap` reads them.
 
 ghost use Rattle.std.specs.Prelude.{◌≡◌, IfOk, map};
-ghost use Rattle.esdk_args.specs.Found.{Parses, refusal_of};
+ghost use Rattle.esdk_args.specs.Found.{Parses, refusal_of_error};
 
 use crate::commands::{CommandName, clap_command};
 use crate::request::WordsFault;
@@ -39,7 +39,7 @@ pub(crate) fn parse<'a>(
 
 /// What an error of `clap` of this kind comes to.
 fn refusal(kind: ErrorKind) -> WordsFault
-    ensures { result ≡ refusal_of kind }
+    ensures { result ≡ refusal_of_error kind }
 {
     match kind {
         ErrorKind::OutOfMemory => WordsFault::Memory,

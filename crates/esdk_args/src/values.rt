@@ -3,7 +3,8 @@
 ghost use Rattle.std.specs.Prelude.{◌≡◌, ◌≤◌, ◌<◌, ◌^◌, IfOk, IfSome, option_map};
 ghost use Rattle.esdk_args.specs.Options.{greatest};
 ghost use Rattle.esdk_args.specs.PairWords.{bad_pair};
-ghost use Rattle.esdk_args.specs.Values.{argument_fault, first_fault, given_of, is_from_words, required_name, required_number, value_fault, values_of};
+ghost use Rattle.esdk_args.specs.Values.{argument_fault, first_fault, given_of, is_from_words};
+ghost use Rattle.esdk_args.specs.Values.{required_name, required_number, value_fault, values_of};
 
 use crate::commands::{Argument, PAIRS};
 use crate::numbers::number_of;

@@ -3,7 +3,8 @@
 ghost use Rattle.std.specs.Prelude.{◌≡◌, IfOk, Some, map};
 ghost use Rattle.esdk_args.specs.Faults.{AnswersWords};
 ghost use Rattle.esdk_args.specs.Values.{values_of};
-ghost use Rattle.esdk_args.specs.Words.{words_of, read_behind, request_of, HasFrame, HasRange, HasSize};
+ghost use Rattle.esdk_args.specs.Words.{words_of, read_behind, request_of_words, HasFrame};
+ghost use Rattle.esdk_args.specs.Words.{HasRange, HasSize};
 
 use crate::building::request_from;
 use crate::commands::{CommandName, arguments, command_named};
@@ -59,7 +60,7 @@ fn request(
     name: CommandName,
     matches: &ArgMatches<'_>,
 ) -> Result<Request, WordsFault>
-    ensures { AnswersWords result (request_of name (values_of matches.now)) }
+    ensures { AnswersWords result (request_of_words name (values_of matches.now)) }
 {
     match first_fault(arguments(name), matches) {
         Some(fault) => Err(fault),

@@ -1,5 +1,5 @@
 -- What a sink is as a receiver of bytes.
-use Rattle.std.specs.Prelude.{◌≡◌, ℕ, List}
+use Rattle.std.specs.Prelude.{◌≡◌, ℕ, List, ◌++◌}
 use Rattle.std.specs.Io.KnownBytes.{Appends}
 use Rattle.esdk_fields.specs.Counts.{Rose}
 use Rattle.esdk_base.specs.Sink.{AppendsFront}
@@ -14,3 +14,11 @@ pub record SinkTakes (old new : SinkState) (bytes : List ℕ) : Type 0 where
 pub record SinkFails (old new : SinkState) (bytes : List ℕ) : Type 0 where
   pub front : AppendsFront old.written new.written bytes
   pub rose : Rose old.faults new.faults
+
+-- these are put behind those that were gathered
+abbrev pub Gathers : List ℕ → List ℕ → List ℕ → Type 0
+Gathers old new bytes = new ≡ old ++ bytes
+
+-- a sink of which this is the state took all of these bytes
+abbrev pub PutsAll : {R : Type 0} → (R → SinkState) → R → R → List ℕ → Type 0
+PutsAll state old new bytes = SinkTakes (state old) (state new) bytes

@@ -1,11 +1,12 @@
 -- Sinks keep the laws of receivers, which an `impl` can cite from specs/ alone.
-use Rattle.std.proofs.Common.{◌∙◌, ℕ, ◌+◌, List, [], ◌++◌, length, take, min, refl, sym, subst, arith}
+use Rattle.std.proofs.Common.{◌∙◌, ℕ, ◌+◌, List, [], ◌++◌, length, take, min, refl, sym, subst}
+use Rattle.std.proofs.Common.{arith, append-nil, ap, append_assoc}
 use Rattle.std.proofs.lemmas.List.{take_min, take-append-le}
 use Rattle.std.proofs.Math.Seq.{take-append-add}
 use Rattle.std.proofs.KnownBytes.{Appends-nil, Appends-trans}
 use Rattle.std.specs.declared.option.Option.{Option}
 use Rattle.std.specs.Io.KnownBytes.{Appends}
-use Rattle.esdk_base.specs.Receiver.{SinkFails, SinkTakes}
+use Rattle.esdk_base.specs.Receiver.{SinkFails, SinkTakes, Gathers}
 use Rattle.esdk_base.specs.Sink.{AppendsFront}
 use Rattle.esdk_base.specs.Streams.{SinkState}
 
@@ -46,3 +47,11 @@ fails_behind a b c xs ys first second = record {
   front = front_after a.written b.written c.written xs ys first.gained second.front;
   rose = omega (arith, second.rose, first.faults);
 }
+
+pub gathers_none : (r : List ℕ) → Gathers r r []
+gathers_none r = sym (append-nil r)
+
+pub gathers_more : (r s t first second : List ℕ) → Gathers r s first → Gathers s t second
+    → Gathers r t (first ++ second)
+gathers_more r s t first second one two =
+    two ∙ ap (λ (b : List ℕ). b ++ second) one ∙ append_assoc r first second

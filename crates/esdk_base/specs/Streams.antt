@@ -1,6 +1,6 @@
 -- What a source, a sink, a shelf, an entropy and a clock tell and count at one moment.
 use Rattle.std.specs.Prelude.{◌≡◌, ◌⊎◌, ℕ, List, Bool, true, ⊤}
-use Rattle.std.specs.Prelude.{Option, Some, None}
+use Rattle.std.specs.Prelude.{Option, Some, None, ◌^◌}
 use Rattle.esdk_fields.specs.Counts.{Rose}
 use Rattle.esdk_seen.specs.Calls.{ShelfCall}
 use Rattle.esdk_base.specs.Clock.{Moments}
@@ -48,3 +48,7 @@ FailsToRead old new name = Rose old.faults new.faults
 abbrev pub OnTold : Option (List ℕ) → (List ℕ → Type 0) → Type 0
 OnTold None P = ⊤
 OnTold (Some bytes) P = P bytes
+
+-- how many bytes of an input or of a file are taken at the most
+abbrev pub most_input : ℕ
+most_input = 2 ^ 62

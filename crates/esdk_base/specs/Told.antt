@@ -1,7 +1,8 @@
 -- What went through an object, as its calls tell it: the bytes that a source gave and whether its
 -- end was seen, the bytes that an entropy gave, and the calls of a shelf. Every object tells that,
 -- whether it tells what it holds or not.
-use Rattle.std.specs.Prelude.{◌≡◌, ◌⊎◌, ℕ, ◌<◌, ◌==◌, List, [], ◌∷◌, ◌++◌, length, take, Bool, Result, MatchResult}
+use Rattle.std.specs.Prelude.{◌≡◌, ◌⊎◌, ℕ, ◌<◌, ◌==◌, List, [], ◌∷◌, ◌++◌, length, take, Bool}
+use Rattle.std.specs.Prelude.{Result, MatchResult}
 use Rattle.esdk_seen.specs.Calls.{ForWhom, ShelfCall, anyone, appends, its_owner, reads}
 use Rattle.esdk_base.specs.declared.shelf.Readers.{Readers}
 use Rattle.esdk_base.specs.declared.shelf.Readers.TheVariants as readers

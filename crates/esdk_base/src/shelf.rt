@@ -5,7 +5,8 @@ ghost use Rattle.std.specs.Io.{ReadsAtMost};
 ghost use Rattle.esdk_fields.specs.Counts.{CountsGiven, HasCause};
 ghost use Rattle.esdk_seen.specs.Calls.{creates, finishes};
 ghost use Rattle.esdk_base.specs.Told.{TellsAppend, TellsCall, TellsRead, whom};
-ghost use Rattle.esdk_base.specs.Shelf.{AppendsTo, Creates, EndsAt, HasCauseOrMissing, ReadsFrom, is_missing};
+ghost use Rattle.esdk_base.specs.Shelf.{AppendsTo, Creates, EndsAt, HasCauseOrMissing, ReadsFrom};
+ghost use Rattle.esdk_base.specs.Shelf.{is_missing};
 
 use crate::Failed;
 use std::alloc::AllocError;

@@ -12,7 +12,7 @@ use Rattle.batch_report.specs.declared.job_lines.JobLine.{JobLine}
 use Rattle.batch_report.specs.declared.job_lines.JobEnd.{JobEnd}
 use Rattle.esdk_batch.specs.declared.progress.Progress.{Progress}
 use Rattle.esdk_batch.specs.declared.progress.Progress.TheVariants as stages
-use Rattle.esdk_batch.specs.Failures.{AllCounted, CountsFailures, HasFile, Tally, TurnCounts, entropy_fails, fails_by, keyring_fails, shelf_fails, shelf_fails_of}
+use Rattle.esdk_batch.specs.Failures.{JobsCounted, CountsFailures, HasFile, Tally, TurnCounts, entropy_fails, fails_by, keyring_fails, shelf_fails, shelf_fails_of}
 use Rattle.esdk_batch.specs.Files.{KeepsOthers}
 use Rattle.esdk_batch.specs.Progress.{is_ended}
 use Rattle.esdk_batch.specs.Rounds.{FilesAreApart}
@@ -39,7 +39,7 @@ same_fails files began job (stages.Ended line) same = ap (λ (b : Bool). if b th
 
 -- the file of the job at this place
 pub has_file_at : (jobs : List Job) (progress : List Progress) (i : ℕ) (job : Job) (one : Progress) (began now : Tally) → i < length progress → length progress ≡ length jobs → job ≡ get_or jobs i job
-    → one ≡ get_or progress i one → AllCounted jobs began now progress → HasFile now.files job one
+    → one ≡ get_or progress i one → JobsCounted jobs began now progress → HasFile now.files job one
 has_file_at jobs progress i job one began now within each is was all =
     subst (λ (p : Progress). HasFile now.files job p) (sym was) (subst (λ (j : Job). HasFile now.files j (get_or progress i one)) (sym is) (all.has i job one within))
 
@@ -47,7 +47,7 @@ has_file_at jobs progress i job one began now within each is was all =
 
 module _ (jobs : List Job) (progress : List Progress) (i : ℕ) (job : Job) (old new : Progress) (began before now : Tally) (within : i < length progress) (each : length progress ≡ length jobs)
     (is : job ≡ get_or jobs i job) (was : old ≡ get_or progress i old) (runs : is_ended old ≡ false) (apart : FilesAreApart jobs) (keeps : KeepsOthers before.files now.files job.to)
-    (turn : TurnCounts job new before now) (all : AllCounted jobs began before progress) where
+    (turn : TurnCounts job new before now) (all : JobsCounted jobs began before progress) where
   inside : i < length jobs
   inside = omega (arith, within, each)
 
@@ -64,7 +64,7 @@ module _ (jobs : List Job) (progress : List Progress) (i : ℕ) (job : Job) (old
   shelf_after : RoseBy (fails_by (shelf_fails_of began.files job) new) before.shelf now.shelf
   shelf_after = subst (λ (n : ℕ). RoseBy n before.shelf now.shelf) (same_fails before.files began.files job new missing) turn.shelf
 
-  pub counted_after : AllCounted jobs began now (set progress i new)
+  pub counted_after : JobsCounted jobs began now (set progress i new)
   counted_after = record {
     told = keeps.tells ∙ all.told;
     others = others_after jobs i job began.files before.files now.files inside is keeps all.others;
@@ -85,7 +85,7 @@ waits_none : (fails : JobEnd → ℕ) (one : Progress) → one ≡ stages.Waitin
 waits_none fails one waits = ap (fails_by fails) waits
 
 -- no job had a turn
-pub counted_none : (jobs : List Job) (began : Tally) (progress : List Progress) → All (λ one. one ≡ stages.Waiting) progress → AllCounted jobs began began progress
+pub counted_none : (jobs : List Job) (began : Tally) (progress : List Progress) → All (λ one. one ≡ stages.Waiting) progress → JobsCounted jobs began began progress
 counted_none jobs began progress waiting = record {
   told = refl;
   others = λ name none. refl;
@@ -98,11 +98,11 @@ counted_none jobs began progress waiting = record {
 }
 
 -- all jobs ended
-pub counted_all : (jobs file : List Job) (began now : Tally) (progress : List Progress) (lines : List JobLine) → jobs ≡ file → progress ≡ map stages.Ended lines → AllCounted jobs began now progress
+pub counted_all : (jobs file : List Job) (began now : Tally) (progress : List Progress) (lines : List JobLine) → jobs ≡ file → progress ≡ map stages.Ended lines → JobsCounted jobs began now progress
     → CountsFailures file began now lines
 counted_all jobs file began now progress lines same ended all =
-    let counts : AllCounted file began now (map stages.Ended lines) =
-    subst (λ (j : List Job). AllCounted j began now (map stages.Ended lines)) same (subst (λ (p : List Progress). AllCounted jobs began now p) ended all) in
+    let counts : JobsCounted file began now (map stages.Ended lines) =
+    subst (λ (j : List Job). JobsCounted j began now (map stages.Ended lines)) same (subst (λ (p : List Progress). JobsCounted jobs began now p) ended all) in
     record {
       entropy = subst (λ (n : ℕ). RoseBy n began.entropy now.entropy) (sum_mapped (fails_by entropy_fails) stages.Ended lines) counts.entropy;
       keyring = subst (λ (n : ℕ). RoseBy n began.keyring now.keyring) (sum_mapped (fails_by keyring_fails) stages.Ended lines) counts.keyring;

@@ -18,7 +18,7 @@ use Rattle.esdk_batch.specs.declared.progress.Progress.{Progress}
 use Rattle.esdk_batch.specs.declared.progress.Progress.TheVariants as stages
 use Rattle.keyring_trait.specs.Saying.{Saying}
 use Rattle.esdk_batch.specs.Batch.{Draws}
-use Rattle.esdk_batch.specs.Underway.{HasSession, IsAt}
+use Rattle.esdk_batch.specs.Underway.{JobHasSession, IsAt}
 use Rattle.esdk_batch.specs.Turns.{HasKind, Knows, answered_so_far, waits}
 use Rattle.esdk_batch.specs.Rounds.{AreAt, Beginning, HasOwn, HaveSessions, Stand, all_waits}
 use Rattle.esdk_batch.proofs.Beside.{rest_waits}
@@ -52,7 +52,7 @@ none_drawn (suc count) = none_drawn count
 
 pub sessions_wait : (jobs : List Job) (progress : List Progress) (live : ℕ → Option SessionValue) → AllWait progress → HaveSessions jobs progress live
 sessions_wait jobs progress live wait = record {
-  sessions = λ k d below. subst (HasSession live) (sym (wait k d below)) tt;
+  sessions = λ k d below. subst (JobHasSession live) (sym (wait k d below)) tt;
   knows = λ k job d below. subst (λ one. Knows (get_or jobs k job).work one live) (sym (wait k d below)) tt;
   own = λ i j d apart first second. subst (λ one. HasOwn one (get_or progress j d)) (sym (wait i d first)) tt;
   order = λ i j d before below waits. wait j d below;

@@ -9,7 +9,7 @@ use Rattle.desk_core.specs.Session.{SessionValue}
 use Rattle.esdk_batch.specs.declared.progress.Progress.{Progress}
 use Rattle.esdk_batch.specs.declared.progress.Progress.TheVariants as stages
 use Rattle.esdk_batch.specs.Progress.{is_ended}
-use Rattle.esdk_batch.specs.Underway.{beside}
+use Rattle.esdk_batch.specs.Underway.{sessions_beside}
 use Rattle.esdk_batch.specs.Rounds.{beside_all}
 
 -- ---- one session
@@ -45,7 +45,7 @@ module _ (live left : ℕ → Option SessionValue) (id : ℕ) (others : (other :
 
 -- ---- the sessions of several jobs
 
-beside_same : (one : Progress) (f g : ℕ → Option SessionValue) → ((s : ℕ) → f s ≡ g s) → (s : ℕ) → beside one f s ≡ beside one g s
+beside_same : (one : Progress) (f g : ℕ → Option SessionValue) → ((s : ℕ) → f s ≡ g s) → (s : ℕ) → sessions_beside one f s ≡ sessions_beside one g s
 beside_same stages.Waiting f g same s = same s
 beside_same (stages.Live now) f g same s = ap (λ (o : Option SessionValue). cond (nat_eq now.session s) None o) (same s)
 beside_same (stages.Ended line) f g same s = same s
@@ -56,7 +56,7 @@ cond_swap true false o = refl
 cond_swap false true o = refl
 cond_swap false false o = refl
 
-beside_swap : (one other : Progress) (f : ℕ → Option SessionValue) (s : ℕ) → beside one (beside other f) s ≡ beside other (beside one f) s
+beside_swap : (one other : Progress) (f : ℕ → Option SessionValue) (s : ℕ) → sessions_beside one (sessions_beside other f) s ≡ sessions_beside other (sessions_beside one f) s
 beside_swap stages.Waiting stages.Waiting f s = refl
 beside_swap stages.Waiting (stages.Live now) f s = refl
 beside_swap stages.Waiting (stages.Ended line) f s = refl
@@ -71,18 +71,18 @@ beside_all_same : (progress : List Progress) (f g : ℕ → Option SessionValue)
 beside_all_same [] f g same s = same s
 beside_all_same (one ∷ progress) f g same s = beside_same one (beside_all progress f) (beside_all progress g) (beside_all_same progress f g same) s
 
-beside_through : (one : Progress) (progress : List Progress) (f : ℕ → Option SessionValue) (s : ℕ) → beside one (beside_all progress f) s ≡ beside_all progress (beside one f) s
+beside_through : (one : Progress) (progress : List Progress) (f : ℕ → Option SessionValue) (s : ℕ) → sessions_beside one (beside_all progress f) s ≡ beside_all progress (sessions_beside one f) s
 beside_through one [] f s = refl
 beside_through one (other ∷ progress) f s =
-    beside_swap one other (beside_all progress f) s ∙ beside_same other (beside one (beside_all progress f)) (beside_all progress (beside one f)) (beside_through one progress f) s
+    beside_swap one other (beside_all progress f) s ∙ beside_same other (sessions_beside one (beside_all progress f)) (beside_all progress (sessions_beside one f)) (beside_through one progress f) s
 
 -- a turn of the job at a place
 pub rest_set : (progress : List Progress) (i : ℕ) (old new : Progress) (live left : ℕ → Option SessionValue) → i < length progress → old ≡ get_or progress i old
-    → ((s : ℕ) → beside new left s ≡ beside old live s) → (s : ℕ) → beside_all (set progress i new) left s ≡ beside_all progress live s
+    → ((s : ℕ) → sessions_beside new left s ≡ sessions_beside old live s) → (s : ℕ) → beside_all (set progress i new) left s ≡ beside_all progress live s
 rest_set [] i old new live left within was turn s = absurd (omega (arith, within))
 rest_set (one ∷ progress) zero old new live left within was turn s =
-    beside_through new progress left s ∙ beside_all_same progress (beside new left) (beside old live) turn s ∙ sym (beside_through old progress live s)
-    ∙ ap (λ (p : Progress). beside p (beside_all progress live) s) was
+    beside_through new progress left s ∙ beside_all_same progress (sessions_beside new left) (sessions_beside old live) turn s ∙ sym (beside_through old progress live s)
+    ∙ ap (λ (p : Progress). sessions_beside p (beside_all progress live) s) was
 rest_set (one ∷ progress) (suc i) old new live left within was turn s =
     beside_same one (beside_all (set progress i new) left) (beside_all progress live) (rest_set progress i old new live left (omega (arith, within)) was turn) s
 
@@ -90,10 +90,10 @@ rest_set (one ∷ progress) (suc i) old new live left within was turn s =
 pub rest_waits : (progress : List Progress) (live : ℕ → Option SessionValue) → All (λ one. one ≡ stages.Waiting) progress → (s : ℕ) → beside_all progress live s ≡ live s
 rest_waits [] live wait s = refl
 rest_waits (one ∷ progress) live wait s =
-    ap (λ (p : Progress). beside p (beside_all progress live) s) (All-head (λ (p : Progress). p ≡ stages.Waiting) one progress wait)
+    ap (λ (p : Progress). sessions_beside p (beside_all progress live) s) (All-head (λ (p : Progress). p ≡ stages.Waiting) one progress wait)
     ∙ rest_waits progress live (All-tail (λ (p : Progress). p ≡ stages.Waiting) one progress wait) s
 
-ended_rest : (one : Progress) (f : ℕ → Option SessionValue) (s : ℕ) → is_ended one ≡ true → beside one f s ≡ f s
+ended_rest : (one : Progress) (f : ℕ → Option SessionValue) (s : ℕ) → is_ended one ≡ true → sessions_beside one f s ≡ f s
 ended_rest stages.Waiting f s ended = absurd cc
 ended_rest (stages.Live now) f s ended = absurd cc
 ended_rest (stages.Ended line) f s ended = refl

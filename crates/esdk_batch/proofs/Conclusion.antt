@@ -14,7 +14,7 @@ use Rattle.job_file.specs.JobFile.{JobFile}
 use Rattle.batch_report.specs.declared.job_lines.JobLine.{JobLine}
 use Rattle.esdk_batch.specs.declared.progress.Progress.{Progress}
 use Rattle.esdk_batch.specs.declared.progress.Progress.TheVariants as stages
-use Rattle.esdk_batch.specs.Batch.{AllCome, Answered, ComesTo, RunsBatch, in_line, in_report, kind_of, length_of}
+use Rattle.esdk_batch.specs.Batch.{AllCome, ManagerAnswer, ComesTo, RunsBatch, in_line, in_report, kind_of, length_of}
 use Rattle.esdk_batch.specs.Failures.{CountsFailures, Tally, tally_of}
 use Rattle.keyring_trait.specs.Saying.{Saying}
 use Rattle.esdk_batch.specs.Underway.{IsAt}
@@ -68,7 +68,7 @@ same_answers (job ∷ jobs) [] kinds = refl
 same_answers (job ∷ jobs) (line ∷ lines) kinds =
     let rest = same_answers jobs lines (λ k j l below under. kinds (suc k) j l (omega (arith, below)) (omega (arith, under))) in
     ap (λ l. cons_option (answered_so_far (job, stages.Ended line)) l) rest
-    ∙ ap (λ (o : Option Answered). cons_option o (filter_map in_report (zip jobs lines))) (sym (same_answer job line (kinds zero job line (omega arith) (omega arith))))
+    ∙ ap (λ (o : Option ManagerAnswer). cons_option o (filter_map in_report (zip jobs lines))) (sym (same_answer job line (kinds zero job line (omega arith) (omega arith))))
 
 -- ---- the batch
 

@@ -15,7 +15,7 @@ use Rattle.body_format.specs.declared.verdicts.Verdict.TheVariants.{Going, Whole
 use Rattle.stream_seal.specs.Session as seal
 use Rattle.stream_seal.specs.declared.errors.SealError.TheVariants as seals
 use Rattle.stream_open.specs.Session as open_session
-use Rattle.stream_open.specs.Session.{end_of, judged_now}
+use Rattle.stream_open.specs.Session.{end_of_verdict, judged_now}
 use Rattle.stream_open.specs.declared.errors.OpenError.TheVariants as opens
 use Rattle.esdk_decrypt.specs.Decrypt.{fault_at_end}
 use Rattle.desk_core.specs.declared.errors.DeskError.{DeskError}
@@ -24,12 +24,12 @@ use Rattle.desk_core.specs.declared.live_sessions.Desk.{Desk}
 use Rattle.desk_core.specs.Desk.{DeskValue}
 use Rattle.desk_core.specs.Stands.{Stands}
 use Rattle.desk_core.specs.Receiving.{FinishesSession, handed_over}
-use Rattle.desk_core.specs.Session.{SessionValue, Sealing, Opening, finish_answer, open_answer, seal_answer}
+use Rattle.desk_core.specs.Session.{SessionValue, Sealing, Opening, desk_finish_answer, open_answer, seal_answer}
 use Rattle.batch_report.specs.declared.job_lines.JobEnd.{JobEnd}
 use Rattle.batch_report.specs.declared.job_lines.JobEnd.TheVariants as ends
-use Rattle.esdk_batch.specs.Ending.{EndsBy, EndsFor, EndsSession, FinishesSo}
+use Rattle.esdk_batch.specs.Ending.{JobEndsBy, EndsFor, EndsSession, FinishesSo}
 use Rattle.esdk_batch.specs.FileEndLaws.{calls_none, gained_nothing}
-use Rattle.esdk_batch.specs.Files.{Gains, KeepsOthers}
+use Rattle.esdk_batch.specs.Files.{FileGains, KeepsOthers}
 use Rattle.esdk_batch.specs.ShelfCalls.{HasCalls, IsWrite}
 use Rattle.esdk_batch.proofs.Writing.{Put, Writes, put_calls, put_keeps, put_same}
 
@@ -45,13 +45,13 @@ ends_as v session s to files after end finishes = record {
 
 -- ---- how it ends
 
-whole_by : (stopped : Bool) (verdict : Verdict) (x : Unit {0}) → open_answer (if stopped then Err opens.Stopped else end_of verdict) ≡ Ok x → verdict ≡ Whole
+whole_by : (stopped : Bool) (verdict : Verdict) (x : Unit {0}) → open_answer (if stopped then Err opens.Stopped else end_of_verdict verdict) ≡ Ok x → verdict ≡ Whole
 whole_by true verdict x e = absurd cc
 whole_by false Going x e = absurd cc
 whole_by false Whole x e = refl
 whole_by false (Faulty fault) x e = absurd cc
 
-fault_by : (stopped : Bool) (verdict : Verdict) (fault : Fault) → open_answer (if stopped then Err opens.Stopped else end_of verdict) ≡ Err (errors.Fault fault) → fault_at_end verdict ≡ Some fault
+fault_by : (stopped : Bool) (verdict : Verdict) (fault : Fault) → open_answer (if stopped then Err opens.Stopped else end_of_verdict verdict) ≡ Err (errors.Fault fault) → fault_at_end verdict ≡ Some fault
 fault_by true verdict fault e = absurd cc
 fault_by false Going fault e = let same : Truncated ≡ fault = cc in ap (λ f. Some f) same
 fault_by false Whole fault e = absurd cc
@@ -62,22 +62,22 @@ seal_by true error e = cc
 seal_by false error e = absurd cc
 
 -- the session answered an error
-pub error_so : (s : SessionValue) (error : DeskError) (to : List ℕ) (files : Option Files) (result : Result JobEnd AllocError) → finish_answer s ≡ Err error → EndsFor error result
+pub error_so : (s : SessionValue) (error : DeskError) (to : List ℕ) (files : Option Files) (result : Result JobEnd AllocError) → desk_finish_answer s ≡ Err error → EndsFor error result
     → IfOk result (λ end. FinishesSo s to files files end)
-unfolding seal.finish_answer open_session.finish_answer
+unfolding seal.sealing_finish_answer open_session.opening_finish_answer
 error_so (Sealing s) error to files result is ends_for = absurd (subst (λ error. EndsFor error result) (seal_by s.stopped error is) ends_for)
 error_so (Opening s) (errors.Fault fault) to files result is ends_for =
     subst (λ r. IfOk r (λ end. FinishesSo (Opening s) to files files end)) (sym ends_for) (fault_by s.stopped (judged_now s).verdict fault is, refl)
 error_so (Opening s) (errors.Refusal refusal) to files result is ends_for = absurd (no_refusal s.stopped (judged_now s).verdict is)
   where
-    no_refusal : (stopped : Bool) (verdict : Verdict) → open_answer (if stopped then Err opens.Stopped else end_of verdict) ≡ Err (errors.Refusal refusal) → ⊥
+    no_refusal : (stopped : Bool) (verdict : Verdict) → open_answer (if stopped then Err opens.Stopped else end_of_verdict verdict) ≡ Err (errors.Refusal refusal) → ⊥
     no_refusal true verdict e = absurd cc
     no_refusal false Going e = absurd cc
     no_refusal false Whole e = absurd cc
     no_refusal false (Faulty fault) e = absurd cc
 error_so (Opening s) errors.KeyringFault to files result is ends_for = absurd (no_failure s.stopped (judged_now s).verdict is)
   where
-    no_failure : (stopped : Bool) (verdict : Verdict) → open_answer (if stopped then Err opens.Stopped else end_of verdict) ≡ Err errors.KeyringFault → ⊥
+    no_failure : (stopped : Bool) (verdict : Verdict) → open_answer (if stopped then Err opens.Stopped else end_of_verdict verdict) ≡ Err errors.KeyringFault → ⊥
     no_failure true verdict e = absurd cc
     no_failure false Going e = absurd cc
     no_failure false Whole e = absurd cc
@@ -91,37 +91,37 @@ named_ok named end e = cc
 -- ---- what was put behind the file
 
 module _ {R E : Type 0} (takes : R → R → List ℕ → Type 0) (fails : R → R → List ℕ → E → Type 0) (before after : R) (to : List ℕ) (lent still : ℕ) (missing : Bool) (old new : ShelfState) (writes : Writes takes fails before after to lent still missing old new) where
-  nothing_put : after ≡ before → (bytes : List ℕ) × Gains old.files new.files to bytes × (old.faults ≤ new.faults) × (still ≡ lent) × HasCalls (IsWrite to) old new
+  nothing_put : after ≡ before → (bytes : List ℕ) × FileGains old.files new.files to bytes × (old.faults ≤ new.faults) × (still ≡ lent) × HasCalls (IsWrite to) old new
   nothing_put same =
       let kept = writes.same same in (
         [],
-        subst (λ (shelf : ShelfState). Gains old.files shelf.files to []) (sym kept.0) (gained_nothing old.files to),
+        subst (λ (shelf : ShelfState). FileGains old.files shelf.files to []) (sym kept.0) (gained_nothing old.files to),
         omega (arith, ap (λ (shelf : ShelfState). shelf.faults) kept.0),
         kept.1,
         subst (HasCalls (IsWrite to) old) (sym kept.0) (calls_none (IsWrite to) old),
       )
 
   pub put_ended : (s : SessionValue) (result : Result (Unit {0}) (FeedError DeskError E)) → FinishesSession takes fails (Some s) before after result → Put lent still missing old new to result
-  put_ended (Sealing s) (Ok done) ends_so = let took = writes.took (seal.finished s).out ends_so in ((seal.finished s).out, took.0, took.1, took.2, took.3)
+  put_ended (Sealing s) (Ok done) ends_so = let took = writes.took (seal.sealing_finished s).out ends_so in ((seal.sealing_finished s).out, took.0, took.1, took.2, took.3)
   put_ended (Sealing s) (Err (failures.Receiver error)) ends_so =
-      let front = writes.failed (seal.finished s).out error ends_so.1 in (take front.0 (seal.finished s).out, front.1, front.2, front.3, front.4, front.5)
+      let front = writes.failed (seal.sealing_finished s).out error ends_so.1 in (take front.0 (seal.sealing_finished s).out, front.1, front.2, front.3, front.4, front.5)
   put_ended (Sealing s) (Err (failures.Machine error)) ends_so = absurd ends_so
   put_ended (Opening s) (Ok done) ends_so = nothing_put ends_so.1
   put_ended (Opening s) (Err (failures.Receiver error)) ends_so = absurd ends_so
   put_ended (Opening s) (Err (failures.Machine error)) ends_so = nothing_put ends_so.1
 
   pub ends_whole : (s : SessionValue) → FinishesSession {T = Unit {0}} takes fails (Some s) before after (Ok tt) → FinishesSo s to old.files new.files ends.Done
-  unfolding open_session.finish_answer
-  ends_whole (Sealing s) ends_so = (writes.took (seal.finished s).out ends_so).0
+  unfolding open_session.opening_finish_answer
+  ends_whole (Sealing s) ends_so = (writes.took (seal.sealing_finished s).out ends_so).0
   ends_whole (Opening s) ends_so = (
     whole_by s.stopped (judged_now s).verdict tt (ap open_answer ends_so.0),
-    subst (λ (shelf : ShelfState). Gains old.files shelf.files to []) (sym (writes.same ends_so.1).0) (gained_nothing old.files to),
+    subst (λ (shelf : ShelfState). FileGains old.files shelf.files to []) (sym (writes.same ends_so.1).0) (gained_nothing old.files to),
   )
 
-  pub ends_broken : (s : SessionValue) (error : FeedError DeskError E) (end : JobEnd) → EndsBy error (Ok end) → FinishesSession {T = Unit {0}} takes fails (Some s) before after (Err error)
+  pub ends_broken : (s : SessionValue) (error : FeedError DeskError E) (end : JobEnd) → JobEndsBy error (Ok end) → FinishesSession {T = Unit {0}} takes fails (Some s) before after (Err error)
       → FinishesSo s to old.files new.files end
   ends_broken (Sealing s) (failures.Receiver error) end is ends_so =
-      let front = writes.failed (seal.finished s).out error ends_so.1 in
+      let front = writes.failed (seal.sealing_finished s).out error ends_so.1 in
       subst (λ (e : JobEnd). FinishesSo (Sealing s) to old.files new.files e) (sym (named_ok (ends.Outside outsides.ShelfFault) end is)) (front.0, front.1)
   ends_broken (Sealing s) (failures.Machine error) end is ends_so = absurd ends_so
   ends_broken (Opening s) (failures.Receiver error) end is ends_so = absurd ends_so
@@ -155,7 +155,7 @@ module _ {R E : Type 0} (takes : R → R → List ℕ → Type 0) (fails : R →
   session_whole next v session s live ends_so stands =
       (handed_over v session [] None, stands, ends_as v session s to old.files new.files ends.Done (ends_whole s (ended_as v session s (Ok tt) live ends_so)))
 
-  pub session_broken : {M : Type 0} (next : Desk M) (v : DeskValue) (session : ℕ) (s : SessionValue) (error : FeedError DeskError E) (result : Result JobEnd AllocError) → v.live session ≡ Some s → EndsBy error result
+  pub session_broken : {M : Type 0} (next : Desk M) (v : DeskValue) (session : ℕ) (s : SessionValue) (error : FeedError DeskError E) (result : Result JobEnd AllocError) → v.live session ≡ Some s → JobEndsBy error result
       → FinishesSession {T = Unit {0}} takes fails (v.live session) before after (Err error) → Stands next (handed_over v session [] None)
       → IfOk result (λ end. (w : DeskValue) × Stands next w × EndsSession session s v w to old.files new.files end)
   session_broken next v session s error (Ok end) live is ends_so stands =

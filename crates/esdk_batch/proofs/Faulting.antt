@@ -17,7 +17,7 @@ use Rattle.keyring_trait.specs.Manager.{ManagerNow}
 use Rattle.keyring_trait.specs.Materials.{EncMaterialsValue}
 use Rattle.keyring_trait.specs.Requests.{DecRequestValue}
 use Rattle.keyring_trait.specs.Saying.{Saying, said_last}
-use Rattle.stream_seal.specs.Start.{start_refusal}
+use Rattle.stream_seal.specs.Start.{start_refusal, drawn_id}
 use Rattle.stream_open.specs.declared.errors.OpenError.{OpenError}
 use Rattle.stream_open.specs.declared.errors.OpenError.TheVariants as opens
 use Rattle.stream_open.specs.declared.session.Opener.{Opener}
@@ -28,17 +28,17 @@ use Rattle.desk_core.specs.Calls.{IsReply, OpensSeal}
 use Rattle.desk_core.specs.Desk.{DeskValue}
 use Rattle.desk_core.specs.Receiving.{FeedsInto, FeedsSession, FinishesSession}
 use Rattle.desk_core.specs.SealRequest.{SealRequestValue}
-use Rattle.desk_core.specs.Session.{Fails, Gives, NoReply, Opening, Refuses, Reply, Sealing, SessionValue, begun, finish_answer, id_in, open_error, open_opened, seal_opened}
+use Rattle.desk_core.specs.Session.{Fails, Gives, NoReply, Opening, Refuses, Reply, Sealing, SessionValue, begun_turn, desk_finish_answer, open_error, open_opened, seal_opened}
 use Rattle.desk_core.specs.Stands.{manager_of}
 use Rattle.desk_core.specs.declared.errors.DeskError.{DeskError}
 use Rattle.desk_core.specs.declared.errors.DeskError.TheVariants as errors
 use Rattle.desk_core.specs.declared.live_sessions.Desk.{Desk}
 use Rattle.batch_report.specs.declared.job_lines.JobEnd.{JobEnd}
 use Rattle.batch_report.specs.declared.job_lines.JobEnd.TheVariants as ends
-use Rattle.esdk_batch.specs.Ending.{EndsBy, EndsFor}
+use Rattle.esdk_batch.specs.Ending.{JobEndsBy, EndsFor}
 use Rattle.esdk_batch.specs.Failures.{PieceCounts, entropy_fails, fails_in, keyring_fails, shelf_fails}
 use Rattle.esdk_batch.specs.FileEndLaws.{gained_there}
-use Rattle.esdk_batch.specs.Files.{Gains}
+use Rattle.esdk_batch.specs.Files.{FileGains}
 use Rattle.esdk_batch.proofs.Counting.{rose_none, rose_zero}
 use Rattle.esdk_batch.proofs.Ends.{error_so, named_ok, session_put}
 use Rattle.esdk_batch.proofs.Writing.{Put, Writes}
@@ -107,7 +107,7 @@ feed_rose state takes fails v session now s piece old new before after error liv
 
 -- of a call that did all
 pub done_counted : (end : Option JobEnd) (to bytes : List ℕ) (old new : ShelfState) (asked failed : ℕ) → fails_in entropy_fails end ≡ 0 → fails_in keyring_fails end ≡ 0 → fails_in shelf_fails end ≡ 0
-    → Gains old.files new.files to bytes → old.faults ≤ new.faults → is_missing old.files to ≡ false → asked ≤ failed → PieceCounts to end old new asked failed
+    → FileGains old.files new.files to bytes → old.faults ≤ new.faults → is_missing old.files to ≡ false → asked ≤ failed → PieceCounts to end old new asked failed
 done_counted end to bytes old new asked failed drew asked_none wrote gains later there went = record {
   there = gained_there old.files new.files to bytes gains there;
   entropy = drew;
@@ -123,7 +123,7 @@ session_counted takes fails before after to lent still missing old new writes v 
     done_counted (Some ends.Done) to put.0 old new keyring keyring refl refl refl put.1 put.2 there (omega arith)
 
 -- of an error with which the job ended
-pub error_counted : {E : Type 0} (error : FeedError DeskError E) (end : JobEnd) (to : List ℕ) (lent still : ℕ) (old new : ShelfState) (asked failed : ℕ) → EndsBy error (Ok end) → Put {T = Unit {0}} lent still (is_missing old.files to) old new to (Err error)
+pub error_counted : {E : Type 0} (error : FeedError DeskError E) (end : JobEnd) (to : List ℕ) (lent still : ℕ) (old new : ShelfState) (asked failed : ℕ) → JobEndsBy error (Ok end) → Put {T = Unit {0}} lent still (is_missing old.files to) old new to (Err error)
     → is_missing old.files to ≡ false → asked ≤ failed → (error ≡ failures.Machine errors.KeyringFault → Rose asked failed) → PieceCounts to (Some end) old new asked failed
 error_counted (failures.Machine error) end to lent still old new asked failed is put there later rose = record {
   there = gained_there old.files new.files to put.0 put.1 there;
@@ -140,14 +140,14 @@ error_counted (failures.Receiver error) end to lent still old new asked failed i
       shelf = put.3 there;
     })
 
-pub errors_counted : {E : Type 0} (error : FeedError DeskError E) (result : Result JobEnd AllocError) (to : List ℕ) (lent still : ℕ) (old new : ShelfState) (keyring : ℕ) → EndsBy error result
+pub errors_counted : {E : Type 0} (error : FeedError DeskError E) (result : Result JobEnd AllocError) (to : List ℕ) (lent still : ℕ) (old new : ShelfState) (keyring : ℕ) → JobEndsBy error result
     → Put {T = Unit {0}} lent still (is_missing old.files to) old new to (Err error) → is_missing old.files to ≡ false → (error ≡ failures.Machine errors.KeyringFault → ⊥) → IfOk result (λ end. PieceCounts to (Some end) old new keyring keyring)
 errors_counted error (Ok end) to lent still old new keyring is put there sound = error_counted error end to lent still old new keyring keyring is put there (omega arith) (λ same. absurd (sound same))
 errors_counted error (Err failed) to lent still old new keyring is put there sound = tt
 
 -- ---- the beginning
 
-begun_soundly : (request : SealRequestValue) (random : List ℕ) (m : EncMaterialsValue) (id : ℕ) (refusal : Option Refusal) → Err errors.KeyringFault ≡ (begun request random m id refusal).answer → ⊥
+begun_soundly : (request : SealRequestValue) (random : List ℕ) (m : EncMaterialsValue) (id : ℕ) (refusal : Option Refusal) → Err errors.KeyringFault ≡ (begun_turn request random m id refusal).answer → ⊥
 begun_soundly request random m id None is = absurd cc
 begun_soundly request random m id (Some refusal) is = absurd cc
 
@@ -158,7 +158,7 @@ seal_failed : (manager : Saying) (request : SealRequestValue) (now : ℕ) (rando
 seal_failed manager request now random NoReply short id replies is = absurd cc
 seal_failed manager request now random (Gives m) true id replies is = absurd cc
 seal_failed manager request now random (Gives m) false id replies is =
-    absurd (begun_soundly request random m id (start_refusal m request.max_keys (id_in random)) is)
+    absurd (begun_soundly request random m id (start_refusal m request.max_keys (drawn_id random)) is)
 seal_failed manager request now random (Refuses refusal) short id replies is = absurd cc
 seal_failed manager request now random Fails short id replies is = replies.0
 
@@ -176,7 +176,7 @@ open_soundly settings given false id error is failed = absurd cc
 
 -- ---- the end
 
-pub finish_soundly : (s : SessionValue) (error : DeskError) → finish_answer s ≡ Err error → error ≡ errors.KeyringFault → ⊥
+pub finish_soundly : (s : SessionValue) (error : DeskError) → desk_finish_answer s ≡ Err error → error ≡ errors.KeyringFault → ⊥
 finish_soundly (Sealing s) error is failed =
     error_so (Sealing s) errors.KeyringFault [] None (Ok (ends.Outside outsides.KeyringFault)) (is ∙ ap (λ (e : DeskError). Err e) failed) refl
 finish_soundly (Opening s) error is failed =

@@ -12,7 +12,7 @@ use Rattle.esdk_base.specs.Shelf.{is_missing}
 use Rattle.esdk_base.specs.Streams.{ShelfState}
 use Rattle.esdk_base.specs.declared.receiver.FeedError.{FeedError}
 use Rattle.esdk_base.specs.declared.receiver.FeedError.TheVariants as failures
-use Rattle.header_codec.specs.Table.{Head, header}
+use Rattle.header_codec.specs.Table.{HeaderFields, header}
 use Rattle.message_format.specs.Judgement.{Judged, header_of}
 use Rattle.keyring_trait.specs.declared.journal.JournalLine.{JournalLine}
 use Rattle.keyring_trait.specs.declared.served.Served.{Served}
@@ -36,14 +36,14 @@ use Rattle.desk_core.specs.declared.session.Session.{Session}
 use Rattle.desk_core.specs.Desk.{DeskValue, open_lines}
 use Rattle.desk_core.specs.Receiving.{FeedsInto, FeedsOpening, FeedsSession, SealsOn, handed_over}
 use Rattle.desk_core.specs.Session.{SessionValue, Sealing, Opening, open_error}
-use Rattle.desk_core.specs.Stands.{IsLive, Stands, StandsAt, machine_at, manager_of}
+use Rattle.desk_core.specs.Stands.{IsLive, Stands, StandsAtNumber, machine_at, manager_of}
 use Rattle.batch_report.specs.declared.job_lines.JobEnd.{JobEnd}
 use Rattle.batch_report.specs.declared.job_lines.JobEnd.TheVariants as ends
 use Rattle.esdk_decrypt.specs.Decrypt.{answers_at, fault_of}
 use Rattle.esdk_batch.specs.Answering.{HasFailed}
-use Rattle.esdk_batch.specs.Ending.{EndsBy, EndsFor, FeedsPiece, FeedsSo, GoesOnAs, ServesSo}
+use Rattle.esdk_batch.specs.Ending.{JobEndsBy, EndsFor, FeedsJobPiece, FeedsSo, JobGoesOnAs, ServesSo}
 use Rattle.esdk_batch.specs.Failures.{PieceCounts}
-use Rattle.esdk_batch.specs.Files.{Gains, KeepsOthers}
+use Rattle.esdk_batch.specs.Files.{FileGains, KeepsOthers}
 use Rattle.esdk_batch.specs.ShelfCalls.{HasCalls, IsWrite}
 use Rattle.esdk_batch.proofs.Ends.{named_ok}
 use Rattle.esdk_batch.proofs.Faulting.{done_counted, not_memory}
@@ -58,7 +58,7 @@ use Rattle.esdk_batch.proofs.Writing.{Put, Writes, put_calls, put_keeps, put_sam
 -- By what was heard, what is left of the session and how the job ended, if it did.
 pub record Comes (manager : Saying) (session now : ℕ) (s : SessionValue) (piece to : List ℕ) (old new : ShelfState) (heard : Heard) (left : Option SessionValue) (end : Option JobEnd) : Type 0 where
   pub served : Option Served
-  pub lives : end ≡ None → GoesOnAs s left
+  pub lives : end ≡ None → JobGoesOnAs s left
   pub over : is_some end ≡ true → left ≡ None
   pub serves : ServesSo session s (open_lines session now heard) left served end
   pub feeds : FeedsSo manager s piece left to old.files new.files served end
@@ -79,7 +79,7 @@ fault_not_failed : (fault : Fault) → Some (ends.Fault fault) ≡ Some (ends.Ou
 fault_not_failed fault e = cc
 
 -- where a header is refused none is whole
-unread_by : (b : List ℕ) (fault : Fault) (r : Reading Head) → readings.fault_of r ≡ Some fault → option_map (header_of b) (value_of r) ≡ None
+unread_by : (b : List ℕ) (fault : Fault) (r : Reading HeaderFields) → readings.reading_fault r ≡ Some fault → option_map (header_of b) (value_of r) ≡ None
 unread_by b fault (Read parts next) e = absurd (let no : None ≡ Some fault = e in cc)
 unread_by b fault (Refused other at) e = refl
 unread_by b fault Wanting e = refl
@@ -120,7 +120,7 @@ module _ {M R E : Type 0} (state : M → ManagerNow) (takes : R → R → List �
     feeds = λ was. (let whole = fed.3 (is_feeding s piece was) in (whole.2, whole.1.none, (writes.took _ whole.1.taken).0));
   }
 
-  seals_ended : (s : SealingValue) (heard : Heard) (left : Option SessionValue) (error : FeedError DeskError E) (end : JobEnd) → EndsBy error (Ok end)
+  seals_ended : (s : SealingValue) (heard : Heard) (left : Option SessionValue) (error : FeedError DeskError E) (end : JobEnd) → JobEndsBy error (Ok end)
       → FeedsSession {T = Unit {0}} state takes fails now (Some (Sealing s)) piece m n before after heard left (Err error) → Comes manager session now (Sealing s) piece to old new heard left (Some end)
   seals_ended s heard left (failures.Receiver error) end is fed =
       subst (λ (e : JobEnd). Comes manager session now (Sealing s) piece to old new heard left (Some e)) (sym (named_ok (ends.Outside outsides.ShelfFault) end is))
@@ -133,7 +133,7 @@ module _ {M R E : Type 0} (state : M → ManagerNow) (takes : R → R → List �
             (let until = fed.3 (is_feeding s piece was) in
             let front = writes.failed until.1.given error until.1.failed in
             let all = front_on front.0 until.1.given (seals.fed_out until.1.still.now until.1.rest) in
-            (until.2, (all.0, subst (λ (b : List ℕ). Gains old.files new.files to b) (all.1 ∙ ap (take all.0) (sym until.1.still.way.out)) front.1)));
+            (until.2, (all.0, subst (λ (b : List ℕ). FileGains old.files new.files to b) (all.1 ∙ ap (take all.0) (sym until.1.still.way.out)) front.1)));
       })
   seals_ended s heard left (failures.Machine (errors.Refusal refusal)) end is fed =
       subst (λ (e : JobEnd). Comes manager session now (Sealing s) piece to old new heard left (Some e)) (sym (named_ok (ends.Refusal refusal) end is))
@@ -216,7 +216,7 @@ module _ {M R E : Type 0} (state : M → ManagerNow) (takes : R → R → List �
               kept_then manager now s piece heard short.on (hears_as asking manager now s (asked_header s piece) ⊥ heard answers hears) was
               (λ none. unread_by bytes fault (header s.settings (start bytes)) (short.why.unheard none));
           more = short.why.released;
-          gains = subst (λ (b : List ℕ). Gains old.files new.files to b) (sym (take_all (length given) given (omega arith))) (writes.took given short.taken).0;
+          gains = subst (λ (b : List ℕ). FileGains old.files new.files to b) (sym (take_all (length given) given (omega arith))) (writes.took given short.taken).0;
         } in
         record {
           served = (keeping s heard).served;
@@ -278,7 +278,7 @@ module _ {M R E : Type 0} (state : M → ManagerNow) (takes : R → R → List �
     opens_short opens.Memory opener end is short = absurd (not_memory end is)
     opens_short opens.Stopped opener end is short = absurd short.why
 
-    opens_ended : (heard : Heard) (left : Option SessionValue) (error : FeedError DeskError E) (end : JobEnd) → EndsBy error (Ok end)
+    opens_ended : (heard : Heard) (left : Option SessionValue) (error : FeedError DeskError E) (end : JobEnd) → JobEndsBy error (Ok end)
         → FeedsOpening {T = Unit {0}} state takes fails now s piece m n before after heard left (Err error) → Comes manager session now (Opening s) piece to old new heard left (Some end)
     opens_ended heard left (failures.Receiver error) end is (opener, until, same, none) =
         subst (λ (e : JobEnd). Comes manager session now (Opening s) piece to old new heard left (Some e)) (sym (named_ok (ends.Outside outsides.ShelfFault) end is))
@@ -291,13 +291,13 @@ module _ {M R E : Type 0} (state : M → ManagerNow) (takes : R → R → List �
 
 -- ---- the desk
 
-lives_at : (machine : Option Session) (s : SessionValue) → StandsAt machine (Some s) → IsLive s
+lives_at : (machine : Option Session) (s : SessionValue) → StandsAtNumber machine (Some s) → IsLive s
 lives_at None s at = absurd at
 lives_at (Some m) s at = at.1
 
 is_live : {M : Type 0} (desk : Desk M) (v : DeskValue) (session : ℕ) (s : SessionValue) → Stands desk v → v.live session ≡ Some s → IsLive s
 is_live desk v session s stands live =
-    lives_at (machine_at desk.sessions session) s (subst (λ (o : Option SessionValue). StandsAt (machine_at desk.sessions session) o) live (stands.sessions session))
+    lives_at (machine_at desk.sessions session) s (subst (λ (o : Option SessionValue). StandsAtNumber (machine_at desk.sessions session) o) live (stands.sessions session))
 
 module _ {M R E : Type 0} (state : M → ManagerNow) (takes : R → R → List ℕ → Type 0) (fails : R → R → List ℕ → E → Type 0) (manager : Saying) (session now : ℕ) (s : SessionValue) (piece to : List ℕ) (v : DeskValue)
     (desk next : Desk M) (before after : R) (lent still : ℕ) (missing : Bool) (old new : ShelfState) (writes : Writes takes fails before after to lent still missing old new) (stands : Stands desk v) (live : v.live session ≡ Some s) where
@@ -330,7 +330,7 @@ module _ {M R E : Type 0} (state : M → ManagerNow) (takes : R → R → List �
   comes_whole (Opening o) heard left goes answers fed =
       opens_whole state takes fails manager session now piece to (manager_of desk) (manager_of next) before after lent still missing old new writes answers o goes heard left fed
 
-  comes_ended : (o : SessionValue) (heard : Heard) (left : Option SessionValue) (error : FeedError DeskError E) (end : JobEnd) → EndsBy error (Ok end) → IsLive o
+  comes_ended : (o : SessionValue) (heard : Heard) (left : Option SessionValue) (error : FeedError DeskError E) (end : JobEnd) → JobEndsBy error (Ok end) → IsLive o
       → Admits manager (said_last (state (manager_of desk)) (state (manager_of next)))
       → FeedsSession {T = Unit {0}} state takes fails now (Some o) piece (manager_of desk) (manager_of next) before after heard left (Err error)
       → Comes manager session now o piece to old new heard left (Some end)
@@ -340,7 +340,7 @@ module _ {M R E : Type 0} (state : M → ManagerNow) (takes : R → R → List �
       opens_ended state takes fails manager session now piece to (manager_of desk) (manager_of next) before after lent still missing old new writes answers o goes heard left error end is fed
 
   fed_desk : (heard : Heard) (left : Option SessionValue) (end : Option JobEnd) → KeepsOthers old.files new.files to → Comes manager session now s piece to old new heard left end
-      → FeedsPiece manager session s piece v (handed_over v session (open_lines session now heard) left) to old.files new.files end
+      → FeedsJobPiece manager session s piece v (handed_over v session (open_lines session now heard) left) to old.files new.files end
   fed_desk heard left end kept comes =
       let gained : List JournalLine = open_lines session now heard in
       let w : DeskValue = handed_over v session gained left in
@@ -350,7 +350,7 @@ module _ {M R E : Type 0} (state : M → ManagerNow) (takes : R → R → List �
         served = comes.served;
         desk = record { others = λ other apart. update_apart v.live session left other apart; last = refl; journal = refl };
         others = kept;
-        lives = λ going. subst (λ (o : Option SessionValue). GoesOnAs s o) (sym here) (comes.lives going);
+        lives = λ going. subst (λ (o : Option SessionValue). JobGoesOnAs s o) (sym here) (comes.lives going);
         over = λ ended. here ∙ comes.over ended;
         serves = subst (λ (o : Option SessionValue). ServesSo session s gained o comes.served end) (sym here) comes.serves;
         feeds = subst (λ (o : Option SessionValue). FeedsSo manager s piece o to old.files new.files comes.served end) (sym here) comes.feeds;
@@ -358,7 +358,7 @@ module _ {M R E : Type 0} (state : M → ManagerNow) (takes : R → R → List �
 
   -- it was fed to its end
   pub piece_whole : Admits manager (said_last (state (manager_of desk)) (state (manager_of next))) → FeedsInto {T = Unit {0}} state takes fails v session now piece desk next before after (Ok tt)
-      → (w : DeskValue) × Stands next w × FeedsPiece manager session s piece v w to old.files new.files None
+      → (w : DeskValue) × Stands next w × FeedsJobPiece manager session s piece v w to old.files new.files None
   piece_whole answers f =
       let put = piece_put (Ok tt) f in (
         handed_over v session (open_lines session now f.heard) f.left,
@@ -367,8 +367,8 @@ module _ {M R E : Type 0} (state : M → ManagerNow) (takes : R → R → List �
       )
 
   -- or the job ended so
-  pub piece_ended : (error : FeedError DeskError E) (end : JobEnd) → EndsBy error (Ok end) → Admits manager (said_last (state (manager_of desk)) (state (manager_of next))) → FeedsInto {T = Unit {0}} state takes fails v session now piece desk next before after (Err error)
-      → (w : DeskValue) × Stands next w × FeedsPiece manager session s piece v w to old.files new.files (Some end)
+  pub piece_ended : (error : FeedError DeskError E) (end : JobEnd) → JobEndsBy error (Ok end) → Admits manager (said_last (state (manager_of desk)) (state (manager_of next))) → FeedsInto {T = Unit {0}} state takes fails v session now piece desk next before after (Err error)
+      → (w : DeskValue) × Stands next w × FeedsJobPiece manager session s piece v w to old.files new.files (Some end)
   piece_ended error end is answers f = (
     handed_over v session (open_lines session now f.heard) f.left,
     f.stands,

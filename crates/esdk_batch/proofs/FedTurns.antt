@@ -3,6 +3,7 @@ use Rattle.std.proofs.Common.{◌≡◌, ◌≤◌, ◌+◌, ℕ, List, [], ◌�
 use Rattle.std.specs.Prelude.{Option, Some, None, nat_eq, option_map, slice_get}
 use Rattle.std.specs.Map.{update}
 use Rattle.esdk_base.specs.Shelf.{Files, file_of}
+use Rattle.esdk_base.specs.Streams.{most_input}
 use Rattle.keyring_trait.specs.declared.journal.JournalLine.{JournalLine}
 use Rattle.keyring_trait.specs.declared.journal.Kind.{Kind}
 use Rattle.keyring_trait.specs.declared.served.Served.{Served}
@@ -17,12 +18,12 @@ use Rattle.esdk_batch.specs.declared.progress.Live.{Live}
 use Rattle.esdk_batch.specs.declared.progress.Progress.{Progress}
 use Rattle.esdk_batch.specs.declared.progress.Progress.TheVariants as stages
 use Rattle.esdk_batch.specs.Batch.{WorksSo, kind_of}
-use Rattle.esdk_batch.specs.Ending.{FeedsPiece, FeedsSo, GoesOnAs, ServedOnce, ServesSo}
-use Rattle.esdk_batch.specs.Files.{ReadsPiece, most_input}
+use Rattle.esdk_batch.specs.Ending.{FeedsJobPiece, FeedsSo, JobGoesOnAs, ServedOnce, ServesSo}
+use Rattle.esdk_batch.specs.Files.{ReadsPiece}
 use Rattle.keyring_trait.specs.Saying.{Saying}
 use Rattle.esdk_batch.specs.OpenStory.{OpensSo}
 use Rattle.esdk_batch.specs.Turns.{either}
-use Rattle.esdk_batch.specs.Underway.{FurtherTurn, IsLive, Took}
+use Rattle.esdk_batch.specs.Underway.{FurtherTurn, JobIsLive, Took}
 use Rattle.esdk_batch.proofs.Beside.{rest_on, rest_over}
 use Rattle.esdk_batch.proofs.FurtherTurns.{ended_as}
 use Rattle.esdk_batch.proofs.OpeningJobs.{open_ends, open_goes}
@@ -68,17 +69,17 @@ reported_is known since reported all lines gained n reports since_is all_is n_is
 
 lives_fed : (manager : Saying) (work : Work) (from : Option (List ℕ)) (drawn : List ℕ) (live next : Live) (s : SessionValue) (piece to : List ℕ) (count : ℕ)
     (session : Option SessionValue) (gained : List JournalLine) (behind : Option Served) (files after : Option Files) (now left : Files) → next.at ≡ live.at + count
-    → next.served ≡ either live.served (served_first gained) → IsLive manager work from (file_of (Some now) to) drawn live (Some s)
+    → next.served ≡ either live.served (served_first gained) → JobIsLive manager work from (file_of (Some now) to) drawn live (Some s)
     → ((taken : List ℕ) → Took taken live.at from → TookPiece taken piece live.at count from) → files ≡ Some now → after ≡ Some left
-    → ServesSo live.session s gained session behind None → FeedsSo manager s piece session to files after behind None → IsLive manager work from (file_of (Some left) to) drawn next session
+    → ServesSo live.session s gained session behind None → FeedsSo manager s piece session to files after behind None → JobIsLive manager work from (file_of (Some left) to) drawn next session
 lives_fed manager (Encrypt length frame context required) from drawn live next (Sealing s) piece to count session gained behind files after now left further served at took is later serves feeds =
     let f = feeds at.is_fed in
-    subst (λ (o : Option SessionValue). IsLive manager (Encrypt length frame context required) from (file_of (Some left) to) drawn next o) (sym f.0)
+    subst (λ (o : Option SessionValue). JobIsLive manager (Encrypt length frame context required) from (file_of (Some left) to) drawn next o) (sym f.0)
     (seal_goes manager (record { declared = length; frame = frame; context = context; required = required }) from (file_of (Some now) to) (file_of (Some left) to) drawn live next s piece count
     further (served ∙ served_still live.served gained serves) at (took s.taken at.took) f.1 (gains_behind files after now left to (fed_out s piece) (given_so_far s) is later f.2 at.holds))
 lives_fed manager (Decrypt given required) from drawn live next (Opening s) piece to count session gained behind files after now left further served at took is later serves feeds =
     let f = feeds at.1.goes in
-    subst (λ (o : Option SessionValue). IsLive manager (Decrypt given required) from (file_of (Some left) to) drawn next o) (sym f.1) (
+    subst (λ (o : Option SessionValue). JobIsLive manager (Decrypt given required) from (file_of (Some left) to) drawn next o) (sym f.1) (
       at.0,
       open_goes manager given from live next s f.0 piece to count files after now left further
           (served ∙ served_now live.session live.served s.served behind gained at.1.served serves.once ∙ sym (serves.kept f.0 f.1)) at.1 (took s.taken at.1.took) is later f.2,
@@ -87,13 +88,13 @@ lives_fed manager (Encrypt length frame context required) from drawn live next (
 lives_fed manager (Decrypt given required) from drawn live next (Sealing s) piece to count session gained behind files after now left further served at took is later serves feeds = absurd at
 
 -- a session that goes on is live
-still_live : (s : SessionValue) (left : Option SessionValue) → GoesOnAs s left → (t : SessionValue) × (left ≡ Some t)
+still_live : (s : SessionValue) (left : Option SessionValue) → JobGoesOnAs s left → (t : SessionValue) × (left ≡ Some t)
 still_live (Sealing s) left goes = (Sealing goes.0, goes.1)
 still_live (Opening s) left goes = (Opening goes.0, goes.1)
 
 -- The piece was fed to its end.
 pub fed_turn : (manager : Saying) (job : Job) (live next : Live) (s : SessionValue) (v w : DeskValue) (files after : Option Files) (buffer : List ℕ) (count : ℕ)
-    → v.live live.session ≡ Some s → ReadsPiece files job.from live.at count buffer → (fed : FeedsPiece manager live.session s (take count buffer) v w job.to files after None)
+    → v.live live.session ≡ Some s → ReadsPiece files job.from live.at count buffer → (fed : FeedsJobPiece manager live.session s (take count buffer) v w job.to files after None)
     → next.session ≡ live.session → next.at ≡ live.at + count → next.served ≡ either live.served (served_first fed.gained)
     → FurtherTurn manager job live (stages.Live next) v w files after
 fed_turn manager job live next s v w files after buffer count lives reads fed same further served = record {
@@ -108,8 +109,8 @@ fed_turn manager job live next s v w files after buffer count lives reads fed sa
       let on = still_live s (w.live live.session) (fed.lives refl) in
       (on.0, ap w.live same ∙ on.1, subst (λ (n : ℕ). n ≤ most_input) (sym further) reads.most);
   stands = λ before now left drawn is later from at.
-      let at_s = subst (λ (o : Option SessionValue). IsLive manager job.work (file_of (Some before) job.from) (file_of (Some now) job.to) drawn live o) lives at in
-      subst (λ (id : ℕ). IsLive manager job.work (file_of (Some before) job.from) (file_of (Some left) job.to) drawn next (w.live id)) (sym same)
+      let at_s = subst (λ (o : Option SessionValue). JobIsLive manager job.work (file_of (Some before) job.from) (file_of (Some now) job.to) drawn live o) lives at in
+      subst (λ (id : ℕ). JobIsLive manager job.work (file_of (Some before) job.from) (file_of (Some left) job.to) drawn next (w.live id)) (sym same)
       (lives_fed manager job.work (file_of (Some before) job.from) drawn live next s (take count buffer) job.to count (w.live live.session) fed.gained fed.served files after now left further served at_s
       (λ taken took. took_piece files now job.from buffer taken live.at count (file_of (Some before) job.from) is from reads took) is later fed.serves fed.feeds);
 }
@@ -118,7 +119,7 @@ fed_turn manager job live next s v w files after buffer count lives reads fed sa
 
 works_broken : (manager : Saying) (work : Work) (from before : Option (List ℕ)) (drawn : List ℕ) (live : Live) (served : Option Served) (s : SessionValue) (piece to : List ℕ) (count : ℕ)
     (session : Option SessionValue) (gained : List JournalLine) (behind : Option Served) (files after : Option Files) (now left : Files) (end : JobEnd)
-    → served ≡ either live.served (served_first gained) → IsLive manager work from (file_of (Some now) to) drawn live (Some s)
+    → served ≡ either live.served (served_first gained) → JobIsLive manager work from (file_of (Some now) to) drawn live (Some s)
     → ((taken : List ℕ) → Took taken live.at from → TookPiece taken piece live.at count from) → files ≡ Some now → after ≡ Some left
     → ServesSo live.session s gained session behind (Some end) → FeedsSo manager s piece session to files after behind (Some end)
     → WorksSo manager work (seen_with from before (file_of (Some left) to) drawn served) end
@@ -142,7 +143,7 @@ works_broken manager (Decrypt given required) from before drawn live served (Sea
 
 -- The piece wasn't fed to its end.
 pub broken_turn : (manager : Saying) (job : Job) (live : Live) (served : Option Served) (s : SessionValue) (v w : DeskValue) (files after : Option Files) (buffer : List ℕ) (count : ℕ) (end : JobEnd)
-    → v.live live.session ≡ Some s → ReadsPiece files job.from live.at count buffer → (fed : FeedsPiece manager live.session s (take count buffer) v w job.to files after (Some end))
+    → v.live live.session ≡ Some s → ReadsPiece files job.from live.at count buffer → (fed : FeedsJobPiece manager live.session s (take count buffer) v w job.to files after (Some end))
     → served ≡ either live.served (served_first fed.gained)
     → FurtherTurn manager job live (stages.Ended (record { kind = kind_of job.work; end = end; served = served })) v w files after
 broken_turn manager job live served s v w files after buffer count end lives reads fed reports = record {
@@ -154,7 +155,7 @@ broken_turn manager job live served s v w files after buffer count end lives rea
   others = λ left is. fed.others;
   has = tt;
   stands = λ before now left drawn is later from at.
-      let at_s = subst (λ (o : Option SessionValue). IsLive manager job.work (file_of (Some before) job.from) (file_of (Some now) job.to) drawn live o) lives at in (
+      let at_s = subst (λ (o : Option SessionValue). JobIsLive manager job.work (file_of (Some before) job.from) (file_of (Some now) job.to) drawn live o) lives at in (
         refl,
         works_broken manager job.work (file_of (Some before) job.from) (file_of (Some before) job.to) drawn live served s (take count buffer) job.to count (w.live live.session) fed.gained fed.served
             files after now left end reports at_s
@@ -166,15 +167,15 @@ broken_turn manager job live served s v w files after buffer count end lives rea
 
 -- what feeding came to, of the file and the files as the turn has them
 pub fed_as : (manager : Saying) (session : ℕ) (s : SessionValue) (piece : List ℕ) (v w : DeskValue) (to name : List ℕ) (files mid after : Option Files) (end known : Option JobEnd)
-    → to ≡ name → mid ≡ files → end ≡ known → FeedsPiece manager session s piece v w to mid after end → FeedsPiece manager session s piece v w name files after known
+    → to ≡ name → mid ≡ files → end ≡ known → FeedsJobPiece manager session s piece v w to mid after end → FeedsJobPiece manager session s piece v w name files after known
 fed_as manager session s piece v w to name files mid after end known to_is same end_is fed =
-    subst (λ (t : List ℕ). FeedsPiece manager session s piece v w t files after known) to_is
-    (subst (λ (f : Option Files). FeedsPiece manager session s piece v w to f after known) same
-    (subst (λ (e : Option JobEnd). FeedsPiece manager session s piece v w to mid after e) end_is fed))
+    subst (λ (t : List ℕ). FeedsJobPiece manager session s piece v w t files after known) to_is
+    (subst (λ (f : Option Files). FeedsJobPiece manager session s piece v w to f after known) same
+    (subst (λ (e : Option JobEnd). FeedsJobPiece manager session s piece v w to mid after e) end_is fed))
 
 pub fed_so : (manager : Saying) (job : Job) (live : Live) (name : List ℕ) (served : Option Served) (s : SessionValue) (v w : DeskValue) (files after : Option Files) (buffer : List ℕ) (count : ℕ)
     → name ≡ job.from → v.live live.session ≡ Some s → ReadsPiece files name live.at count buffer
-    → (fed : FeedsPiece manager live.session s (take count buffer) v w job.to files after None) → served ≡ either live.served (served_first fed.gained)
+    → (fed : FeedsJobPiece manager live.session s (take count buffer) v w job.to files after None) → served ≡ either live.served (served_first fed.gained)
     → FurtherTurn manager job live (stages.Live (record { session = live.session; at = live.at + count; served = served })) v w files after
 fed_so manager job live name served s v w files after buffer count name_is lives reads fed reports =
     fed_turn manager job live (record { session = live.session; at = live.at + count; served = served }) s v w files after buffer count lives
@@ -182,7 +183,7 @@ fed_so manager job live name served s v w files after buffer count name_is lives
 
 pub broken_so : (manager : Saying) (job : Job) (live : Live) (next : Progress) (kind : Kind) (name : List ℕ) (served : Option Served) (s : SessionValue) (v w : DeskValue) (files after : Option Files)
     (buffer : List ℕ) (count : ℕ) (end : JobEnd) → kind ≡ kind_of job.work → next ≡ ended_as kind end served → name ≡ job.from → v.live live.session ≡ Some s
-    → ReadsPiece files name live.at count buffer → (fed : FeedsPiece manager live.session s (take count buffer) v w job.to files after (Some end))
+    → ReadsPiece files name live.at count buffer → (fed : FeedsJobPiece manager live.session s (take count buffer) v w job.to files after (Some end))
     → served ≡ either live.served (served_first fed.gained) → FurtherTurn manager job live next v w files after
 broken_so manager job live next kind name served s v w files after buffer count end kind_is next_is name_is lives reads fed reports =
     subst (λ (n : Progress). FurtherTurn manager job live n v w files after) (sym (next_is ∙ ap (λ (k : Kind). ended_as k end served) kind_is))

@@ -23,7 +23,7 @@ use Rattle.batch_report.specs.declared.job_lines.JobLine.{JobLine}
 use Rattle.esdk_batch.specs.declared.progress.Live.{Live}
 use Rattle.esdk_batch.specs.declared.progress.Progress.{Progress}
 use Rattle.esdk_batch.specs.declared.progress.Progress.TheVariants as stages
-use Rattle.esdk_batch.specs.Batch.{Answered, in_line, kind_of, length_of}
+use Rattle.esdk_batch.specs.Batch.{ManagerAnswer, in_line, kind_of, length_of}
 use Rattle.esdk_batch.specs.Opening.{BeginsFile}
 use Rattle.esdk_batch.specs.SealStory.{SealAsked}
 use Rattle.esdk_batch.specs.Turns.{AddsLines, DrawsNumber, Knows, served_so_far}
@@ -51,10 +51,10 @@ begun_served session kind served s v w files after to stages.Waiting file = absu
 begun_served session kind served s v w files after to (stages.Live live) file = ap (λ (l : Live). l.served) file.begins.0
 begun_served session kind served s v w files after to (stages.Ended line) file = ap (λ (l : JobLine). l.served) file.begins.0
 
-abbrev answer_of : Work → Served → Answered
+abbrev answer_of : Work → Served → ManagerAnswer
 answer_of work served = record { kind = kind_of work; served = served; length = length_of work }
 
-abbrev told_of : Work → Option Served → List Answered
+abbrev told_of : Work → Option Served → List ManagerAnswer
 told_of work served = option_to_list (option_map (answer_of work) served)
 
 told_seal : (id now : ℕ) (size : Option ℕ) (frame : ℕ) (context : List KeyValue) (required : List (List ℕ)) (served : Option Served)

@@ -9,8 +9,8 @@ use Rattle.esdk_base.specs.Streams.{EntropyState}
 use Rattle.keyring_trait.specs.declared.journal.JournalLine.{JournalLine}
 use Rattle.keyring_trait.specs.declared.journal.Kind.{Kind}
 use Rattle.keyring_trait.specs.declared.served.Served.{Served}
-use Rattle.desk_core.specs.Session.{SessionValue, Turn, dropped, header_of}
-use Rattle.desk_core.specs.Desk.{DeskValue, DropSession, after_call, after_turn, drawn, lines_of}
+use Rattle.desk_core.specs.Session.{SessionValue, Turn, dropped, sealed_header}
+use Rattle.desk_core.specs.Desk.{DeskValue, DropSession, after_desk_call, after_turn, drawn, lines_of}
 use Rattle.job_file.specs.declared.job.Job.{Job}
 use Rattle.batch_report.specs.declared.job_lines.JobEnd.TheVariants as ends
 use Rattle.esdk_batch.specs.declared.progress.Live.{Live}
@@ -21,7 +21,7 @@ use Rattle.esdk_batch.specs.Ending.{KeepsDesk}
 use Rattle.esdk_batch.specs.Files.{Holding, KeepsOthers}
 use Rattle.keyring_trait.specs.Saying.{Saying}
 use Rattle.esdk_batch.specs.Opening.{BeginsFile}
-use Rattle.esdk_batch.specs.Underway.{HasSession, IsAt, TakesTurn, beside}
+use Rattle.esdk_batch.specs.Underway.{JobHasSession, IsAt, TakesTurn, sessions_beside}
 use Rattle.esdk_batch.proofs.Beside.{rest_begun, rest_never}
 
 -- ---- the desk
@@ -67,23 +67,23 @@ rest_none v w lines draws undrawn over = rest_never v.live w.live (v.last + 1) d
 kept_desk : (v : DeskValue) (session : ℕ) → KeepsDesk session v v []
 kept_desk v session = record { others = λ other apart. refl; last = refl; journal = sym (append-nil v.journal) }
 
-pub dropped_desk : (v : DeskValue) (session : ℕ) → KeepsDesk session v (after_call v session false DropSession) []
+pub dropped_desk : (v : DeskValue) (session : ℕ) → KeepsDesk session v (after_desk_call v session false DropSession) []
 dropped_desk v session = record { others = λ other apart. update_apart v.live session (dropped (v.live session)).left other apart; last = refl; journal = refl }
 
-pub dropped_left : (v : DeskValue) (session : ℕ) (s : SessionValue) → v.live session ≡ Some s → (after_call v session false DropSession).live session ≡ None
+pub dropped_left : (v : DeskValue) (session : ℕ) (s : SessionValue) → v.live session ≡ Some s → (after_desk_call v session false DropSession).live session ≡ None
 dropped_left v session s live = update_here v.live session (dropped (v.live session)).left ∙ ap (λ (o : Option SessionValue). (dropped o).left) live
 
 -- the file was made
 pub file_begun : (session : ℕ) (kind : Kind) (served : Option Served) (s : SessionValue) (v : DeskValue) (files after : Option Files) (to : List ℕ) → v.live session ≡ Some s
-    → Holding files after to (header_of s) → BeginsFile session kind served s v v files after to (stages.Live (record { session = session; at = 0; served = served }))
+    → Holding files after to (sealed_header s) → BeginsFile session kind served s v v files after to (stages.Live (record { session = session; at = 0; served = served }))
 file_begun session kind served s v files after to live holding = record { desk = kept_desk v session; begins = (refl, live, holding) }
 
 -- it wasn't, and the session was dropped
 pub file_failed : (session : ℕ) (kind : Kind) (served : Option Served) (s : SessionValue) (v : DeskValue) (files after : Option Files) (to : List ℕ) (next : Progress)
     → next ≡ stages.Ended (record { kind = kind; end = ends.Outside outsides.ShelfFault; served = served }) → v.live session ≡ Some s
-    → (after ≡ files) ⊎ ((n : ℕ) × Holding files after to (take n (header_of s))) → BeginsFile session kind served s v (after_call v session false DropSession) files after to next
+    → (after ≡ files) ⊎ ((n : ℕ) × Holding files after to (take n (sealed_header s))) → BeginsFile session kind served s v (after_desk_call v session false DropSession) files after to next
 file_failed session kind served s v files after to next is live left =
-    subst (λ (p : Progress). BeginsFile session kind served s v (after_call v session false DropSession) files after to p) (sym is)
+    subst (λ (p : Progress). BeginsFile session kind served s v (after_desk_call v session false DropSession) files after to p) (sym is)
     (record { desk = dropped_desk v session; begins = (refl, dropped_left v session s live, left) })
 
 -- ---- files
@@ -139,8 +139,8 @@ served_behind id kind now size served before after count counted grown =
 
 -- A job that waited drew nothing before, and its file was as before the batch.
 pub takes_first : (manager : Saying) (job : Job) (next : Progress) (v w : DeskValue) (lines : List JournalLine) (files left : Option Files) (entropy spent : EntropyState) (more : List ℕ)
-    → DrawsAtMost v w lines → ((session : ℕ) → beside next w.live session ≡ v.live session) → Draws entropy spent more → KeepsOthers files left job.to
-    → HasSession w.live next
+    → DrawsAtMost v w lines → ((session : ℕ) → sessions_beside next w.live session ≡ v.live session) → Draws entropy spent more → KeepsOthers files left job.to
+    → JobHasSession w.live next
     → ((before now then_held : Files) → files ≡ Some now → left ≡ Some then_held → file_of (Some now) job.to ≡ file_of (Some before) job.to → IsAt manager job before then_held more w.live next)
     → TakesTurn manager job stages.Waiting next v w files left entropy spent
 takes_first manager job next v w lines files left entropy spent more draws rest drew others has stands = record {

@@ -18,8 +18,8 @@ use Rattle.batch_report.specs.declared.job_lines.JobLine.{JobLine}
 use Rattle.esdk_batch.specs.declared.progress.Live.{Live}
 use Rattle.esdk_batch.specs.declared.progress.Progress.{Progress}
 use Rattle.esdk_batch.specs.declared.progress.Progress.TheVariants as stages
-use Rattle.esdk_batch.specs.Batch.{Answered, in_line, kind_of, length_of}
-use Rattle.esdk_batch.specs.Ending.{FeedsPiece, GoesOnAs, ServedOnce, ServesSo}
+use Rattle.esdk_batch.specs.Batch.{ManagerAnswer, in_line, kind_of, length_of}
+use Rattle.esdk_batch.specs.Ending.{FeedsJobPiece, JobGoesOnAs, ServedOnce, ServesSo}
 use Rattle.keyring_trait.specs.Saying.{Saying}
 use Rattle.esdk_batch.specs.Turns.{AddsLines, DrawsNumber, Knows, either}
 use Rattle.esdk_batch.proofs.FurtherTurns.{ended_as}
@@ -31,7 +31,7 @@ known (Encrypt length frame context required) live sessions knows = (Sealing kno
 known (Decrypt given required) live sessions knows = (Opening knows.0, knows.1)
 
 -- what is known of an answer for this work
-abbrev pub answer_for : Work → Option Served → List Answered
+abbrev pub answer_for : Work → Option Served → List ManagerAnswer
 answer_for work served = option_to_list (option_map (λ s. record { kind = kind_of work; served = s; length = length_of work }) served)
 
 -- ---- no line
@@ -85,7 +85,7 @@ are_lines (Decrypt given required) live sessions knows gained left end reported 
 
 knows_on : (work : Work) (live next : Live) (sessions later : ℕ → Option SessionValue) (knows : Knows work (stages.Live live) sessions) (gained : List JournalLine) (behind : Option Served)
     → next.session ≡ live.session → next.served ≡ either live.served (served_first gained) → ServesSo live.session (known work live sessions knows).0 gained (later live.session) behind None
-    → GoesOnAs (known work live sessions knows).0 (later live.session) → Knows work (stages.Live next) later
+    → JobGoesOnAs (known work live sessions knows).0 (later live.session) → Knows work (stages.Live next) later
 knows_on (Encrypt length frame context required) live next sessions later knows gained behind same served serves goes = (goes.0, ap later same ∙ goes.1)
 knows_on (Decrypt given required) live next sessions later knows gained behind same served serves goes = (
   goes.0,
@@ -95,7 +95,7 @@ knows_on (Decrypt given required) live next sessions later knows gained behind s
 
 -- the piece was fed to its end
 pub fed_lines : (manager : Saying) (job : Job) (live next : Live) (v w : DeskValue) (piece : List ℕ) (files after : Option Files) (knows : Knows job.work (stages.Live live) v.live)
-    → (fed : FeedsPiece manager live.session (known job.work live v.live knows).0 piece v w job.to files after None)
+    → (fed : FeedsJobPiece manager live.session (known job.work live v.live knows).0 piece v w job.to files after None)
     → next.session ≡ live.session → next.served ≡ either live.served (served_first fed.gained) → AddsLines job (stages.Live live) (stages.Live next) v w
 fed_lines manager job live next v w piece files after knows fed same served =
     let are = are_lines job.work live v.live knows fed.gained (w.live live.session) None next.served fed.served fed.serves served in
@@ -109,7 +109,7 @@ fed_lines manager job live next v w piece files after knows fed same served =
 
 -- or it wasn't
 pub broken_lines : (manager : Saying) (job : Job) (live : Live) (line : JobLine) (v w : DeskValue) (piece : List ℕ) (files after : Option Files) (end : JobEnd)
-    (knows : Knows job.work (stages.Live live) v.live) → (fed : FeedsPiece manager live.session (known job.work live v.live knows).0 piece v w job.to files after (Some end))
+    (knows : Knows job.work (stages.Live live) v.live) → (fed : FeedsJobPiece manager live.session (known job.work live v.live knows).0 piece v w job.to files after (Some end))
     → line.served ≡ either live.served (served_first fed.gained) → AddsLines job (stages.Live live) (stages.Ended line) v w
 broken_lines manager job live line v w piece files after end knows fed served =
     let are = are_lines job.work live v.live knows fed.gained (w.live live.session) (Some end) line.served fed.served fed.serves served in
@@ -124,7 +124,7 @@ no_lines_so job live next kind end v w next_is journal =
     (no_lines job live (record { kind = kind; end = end; served = live.served }) v w refl journal)
 
 pub broken_lines_so : (manager : Saying) (job : Job) (live : Live) (next : Progress) (kind : Kind) (served : Option Served) (v w : DeskValue) (piece : List ℕ) (files after : Option Files) (end : JobEnd)
-    (knows : Knows job.work (stages.Live live) v.live) → (fed : FeedsPiece manager live.session (known job.work live v.live knows).0 piece v w job.to files after (Some end))
+    (knows : Knows job.work (stages.Live live) v.live) → (fed : FeedsJobPiece manager live.session (known job.work live v.live knows).0 piece v w job.to files after (Some end))
     → next ≡ ended_as kind end served → served ≡ either live.served (served_first fed.gained) → AddsLines job (stages.Live live) next v w
 broken_lines_so manager job live next kind served v w piece files after end knows fed next_is reports =
     subst (λ (n : Progress). AddsLines job (stages.Live live) n v w) (sym next_is)

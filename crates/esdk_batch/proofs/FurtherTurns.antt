@@ -5,11 +5,11 @@ use Rattle.std.proofs.lemmas.Map.{update_apart}
 use Rattle.esdk_fields.specs.declared.refusals.Outside.{Outside}
 use Rattle.esdk_fields.specs.declared.refusals.Outside.TheVariants as outsides
 use Rattle.esdk_base.specs.Shelf.{Files, file_of}
-use Rattle.esdk_base.specs.Streams.{ShelfState}
+use Rattle.esdk_base.specs.Streams.{ShelfState, most_input}
 use Rattle.keyring_trait.specs.declared.journal.Kind.{Kind}
 use Rattle.keyring_trait.specs.declared.served.Served.{Served}
 use Rattle.desk_core.specs.Session.{SessionValue, Sealing, Opening, dropped}
-use Rattle.desk_core.specs.Desk.{DeskValue, DropSession, after_call}
+use Rattle.desk_core.specs.Desk.{DeskValue, DropSession, after_desk_call}
 use Rattle.job_file.specs.declared.job.Job.{Job}
 use Rattle.job_file.specs.declared.job.Work.{Work}
 use Rattle.job_file.specs.declared.job.Work.TheVariants.{Encrypt, Decrypt}
@@ -20,9 +20,9 @@ use Rattle.esdk_batch.specs.declared.progress.Progress.{Progress}
 use Rattle.esdk_batch.specs.declared.progress.Progress.TheVariants as stages
 use Rattle.esdk_batch.specs.Batch.{WorksSo, kind_of}
 use Rattle.esdk_batch.specs.Ending.{EndsSession, FinishesSo}
-use Rattle.esdk_batch.specs.Files.{KeepsOthers, ReadsNone, ReadsPiece, most_input}
+use Rattle.esdk_batch.specs.Files.{KeepsOthers, ReadsNone, ReadsPiece}
 use Rattle.keyring_trait.specs.Saying.{Saying}
-use Rattle.esdk_batch.specs.Underway.{FurtherTurn, IsLive, Took}
+use Rattle.esdk_batch.specs.Underway.{FurtherTurn, JobIsLive, Took}
 use Rattle.esdk_batch.proofs.Beside.{rest_over}
 use Rattle.esdk_batch.proofs.FirstTurns.{dropped_left}
 use Rattle.esdk_batch.proofs.OpeningJobs.{open_finishes, open_too_long, open_unread}
@@ -43,7 +43,7 @@ unread_for old new name at outsides.InputTooLong none = none.0
 unread_for old new name at outside none = none
 
 works_unread : (manager : Saying) (work : Work) (from before to : Option (List ℕ)) (drawn : List ℕ) (live : Live) (s : SessionValue) (outside : Outside)
-    → IsLive manager work from to drawn live (Some s) → UnreadFor live.at outside → WorksSo manager work (seen_with from before to drawn live.served) (ends.Outside outside)
+    → JobIsLive manager work from to drawn live (Some s) → UnreadFor live.at outside → WorksSo manager work (seen_with from before to drawn live.served) (ends.Outside outside)
 works_unread manager (Encrypt length frame context required) from before to drawn live (Sealing s) outsides.ShelfFault at none =
     seal_unread manager (record { declared = length; frame = frame; context = context; required = required }) from before to drawn live s at
 works_unread manager (Encrypt length frame context required) from before to drawn live (Sealing s) outsides.InputTooLong at none =
@@ -64,10 +64,10 @@ same_file files after now left name is later same = ap (λ (o : Option Files). f
 -- the session is dropped
 pub unread_turn : (manager : Saying) (job : Job) (live : Live) (s : SessionValue) (v : DeskValue) (files after : Option Files) (outside : Outside) → v.live live.session ≡ Some s
     → UnreadFor live.at outside → after ≡ files
-    → FurtherTurn manager job live (stages.Ended (record { kind = kind_of job.work; end = ends.Outside outside; served = live.served })) v (after_call v live.session false DropSession) files after
+    → FurtherTurn manager job live (stages.Ended (record { kind = kind_of job.work; end = ends.Outside outside; served = live.served })) v (after_desk_call v live.session false DropSession) files after
 unread_turn manager job live s v files after outside lives none same = record {
   sessions = λ other apart. update_apart v.live live.session (dropped (v.live live.session)).left other apart;
-  rest = rest_over v.live (after_call v live.session false DropSession).live live.session (λ other apart. update_apart v.live live.session (dropped (v.live live.session)).left other apart)
+  rest = rest_over v.live (after_desk_call v live.session false DropSession).live live.session (λ other apart. update_apart v.live live.session (dropped (v.live live.session)).left other apart)
       (dropped_left v live.session s lives);
   last = refl;
   gained = [];
@@ -75,7 +75,7 @@ unread_turn manager job live s v files after outside lives none same = record {
   others = λ left is. keeps_all files after job.to same;
   has = tt;
   stands = λ before now left drawn is later from at.
-      let at_s = subst (λ (o : Option SessionValue). IsLive manager job.work (file_of (Some before) job.from) (file_of (Some now) job.to) drawn live o) lives at in (
+      let at_s = subst (λ (o : Option SessionValue). JobIsLive manager job.work (file_of (Some before) job.from) (file_of (Some now) job.to) drawn live o) lives at in (
         refl,
         subst (λ (o : Option (List ℕ)). WorksSo manager job.work (seen_with (file_of (Some before) job.from) (file_of (Some before) job.to) o drawn live.served) (ends.Outside outside))
             (same_file files after now left job.to is later same)
@@ -94,7 +94,7 @@ keeps_finished (Opening s) to files after (ends.Fault fault) same = keeps_all fi
 keeps_finished (Opening s) to files after end none = absurd none
 
 works_finished : (manager : Saying) (work : Work) (from before : Option (List ℕ)) (to drawn : List ℕ) (live : Live) (s : SessionValue) (files after : Option Files) (now left : Files) (end : JobEnd)
-    → IsLive manager work from (file_of (Some now) to) drawn live (Some s) → ((taken : List ℕ) → Took taken live.at from → from ≡ Some taken)
+    → JobIsLive manager work from (file_of (Some now) to) drawn live (Some s) → ((taken : List ℕ) → Took taken live.at from → from ≡ Some taken)
     → files ≡ Some now → after ≡ Some left → FinishesSo s to files after end → WorksSo manager work (seen_with from before (file_of (Some left) to) drawn live.served) end
 works_finished manager (Encrypt length frame context required) from before to drawn live (Sealing s) files after now left end at whole is later finishes =
     seal_finishes manager (record { declared = length; frame = frame; context = context; required = required }) from before drawn live s to files after now left end at
@@ -116,7 +116,7 @@ finished_turn manager job live s v w files after buffer count end lives reads no
   others = λ left is. keeps_finished s job.to files after end finished.finishes;
   has = tt;
   stands = λ before now left drawn is later from at.
-      let at_s = subst (λ (o : Option SessionValue). IsLive manager job.work (file_of (Some before) job.from) (file_of (Some now) job.to) drawn live o) lives at in (
+      let at_s = subst (λ (o : Option SessionValue). JobIsLive manager job.work (file_of (Some before) job.from) (file_of (Some now) job.to) drawn live o) lives at in (
         refl,
         works_finished manager job.work (file_of (Some before) job.from) (file_of (Some before) job.to) job.to drawn live s files after now left end at_s
             (λ taken took. took_all files now job.from buffer taken live.at count (file_of (Some before) job.from) is from reads none took) is later finished.finishes,
@@ -131,9 +131,9 @@ ended_as kind end served = stages.Ended (record { kind = kind; end = end; served
 
 pub unread_so : (manager : Saying) (job : Job) (live : Live) (next : Progress) (kind : Kind) (name : List ℕ) (s : SessionValue) (v : DeskValue) (old new : ShelfState) (files after : Option Files) (outside : Outside)
     → kind ≡ kind_of job.work → next ≡ ended_as kind (ends.Outside outside) live.served → v.live live.session ≡ Some s
-    → ReadsNone old new name live.at outside → after ≡ files → FurtherTurn manager job live next v (after_call v live.session false DropSession) files after
+    → ReadsNone old new name live.at outside → after ≡ files → FurtherTurn manager job live next v (after_desk_call v live.session false DropSession) files after
 unread_so manager job live next kind name s v old new files after outside kind_is next_is lives none same =
-    subst (λ (n : Progress). FurtherTurn manager job live n v (after_call v live.session false DropSession) files after)
+    subst (λ (n : Progress). FurtherTurn manager job live n v (after_desk_call v live.session false DropSession) files after)
     (sym (next_is ∙ ap (λ (k : Kind). ended_as k (ends.Outside outside) live.served) kind_is))
     (unread_turn manager job live s v files after outside lives (unread_for old new name live.at outside none) same)
 

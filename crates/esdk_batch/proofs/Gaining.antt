@@ -8,7 +8,7 @@ use Rattle.std.specs.Cmp.Lexicographic.{nat_list_cmp_total, bytes_decides}
 use Rattle.std.specs.FinMap.{same_map}
 use Rattle.std.proofs.lemmas.Map.Lookups.{exact_bytes}
 use Rattle.esdk_base.specs.Shelf.{Files, file_of}
-use Rattle.esdk_batch.specs.Files.{Gains}
+use Rattle.esdk_batch.specs.Files.{FileGains}
 
 -- ---- no bytes
 
@@ -16,7 +16,7 @@ nothing_more : (held : Option (List ℕ)) → option_map (λ h. h ++ []) held �
 nothing_more None = refl
 nothing_more (Some held) = ap (λ (h : List ℕ). Some h) (append-nil held)
 
-same_at : (old new : Option Files) (name q : List ℕ) (b : Bool) → Gains old new name [] → bytes_eq q name ≡ b → file_of new q ≡ file_of old q
+same_at : (old new : Option Files) (name q : List ℕ) (b : Bool) → FileGains old new name [] → bytes_eq q name ≡ b → file_of new q ≡ file_of old q
 same_at old new name q true gains e =
     let same : q ≡ name = (bytes_decides q name).0 e in
     subst (λ (k : List ℕ). file_of new k ≡ file_of old k) (sym same) (gains.this ∙ nothing_more (file_of old name))
@@ -26,15 +26,15 @@ same_at old new name q false gains e = gains.keeps.others q (λ same. absurd (tr
     true_false e = cc
 
 -- where none were appended, all files are as before
-pub same_files : (old new : Option Files) (name : List ℕ) → Gains old new name [] → new ≡ old
+pub same_files : (old new : Option Files) (name : List ℕ) → FileGains old new name [] → new ≡ old
 same_files None None name gains = refl
 same_files None (Some now) name gains = absurd (let no : true ≡ false = gains.keeps.tells in cc)
 same_files (Some files) None name gains = absurd (let no : false ≡ true = gains.keeps.tells in cc)
 same_files (Some files) (Some now) name gains =
     ap (λ (f : Files). Some f) (same_map nat_list_cmp_total exact_bytes now files (λ q. same_at (Some files) (Some now) name q (bytes_eq q name) gains refl))
 
-pub gains_nothing : (old new : Option Files) (name bytes : List ℕ) → bytes ≡ [] → Gains old new name bytes → new ≡ old
-gains_nothing old new name bytes none gains = same_files old new name (subst (λ (b : List ℕ). Gains old new name b) none gains)
+pub gains_nothing : (old new : Option Files) (name bytes : List ℕ) → bytes ≡ [] → FileGains old new name bytes → new ≡ old
+gains_nothing old new name bytes none gains = same_files old new name (subst (λ (b : List ℕ). FileGains old new name b) none gains)
 
 pub no_bytes_both : (before more : List ℕ) → before ++ more ≡ [] → (before ≡ []) × (more ≡ [])
 no_bytes_both [] more e = (refl, e)

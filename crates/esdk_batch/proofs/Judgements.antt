@@ -9,7 +9,7 @@ use Rattle.esdk_fields.proofs.Fronts.{fault_stays, value_stays}
 use Rattle.context_codec.specs.Context.{KeyValue}
 use Rattle.header_codec.specs.declared.settings.Settings.{Settings}
 use Rattle.header_codec.specs.Header.{HeaderValue}
-use Rattle.header_codec.specs.Table.{Head, header}
+use Rattle.header_codec.specs.Table.{HeaderFields, header}
 use Rattle.header_codec.proofs.Order.{IsSequential-header}
 use Rattle.keyring_trait.specs.declared.manager_errors.ManagerError.TheVariants.{KeyringFault}
 use Rattle.keyring_trait.specs.declared.served.Served.{Served}
@@ -26,19 +26,19 @@ use Rattle.esdk_batch.specs.Answering.{HasAnswer, serving}
 
 -- ---- when more bytes follow
 
-answers_read : (manager : Answering) (settings : Settings) (given : List KeyValue) (b more : List ℕ) (answer : Unlocking) (parts : Head) (p : Place) → header settings (start b) ≡ Read parts p
+answers_read : (manager : Answering) (settings : Settings) (given : List KeyValue) (b more : List ℕ) (answer : Unlocking) (parts : HeaderFields) (p : Place) → header settings (start b) ≡ Read parts p
     → AnswersTo manager settings given b answer → AnswersTo manager settings given (b ++ more) answer
 answers_read manager settings given b more answer parts p e answers =
     let on : header settings (start (b ++ more)) ≡ Read parts (followed p more) = value_stays (header settings) b more parts p (IsSequential-header settings) e in
-    subst (λ (r : Reading Head). AnswersReading manager given (b ++ more) r answer) (sym on)
+    subst (λ (r : Reading HeaderFields). AnswersReading manager given (b ++ more) r answer) (sym on)
     (subst (λ (h : HeaderValue). AnswersRequest manager (request_of given h) answer) (sym (header_stays settings b more parts p e))
-    (subst (λ (r : Reading Head). AnswersReading manager given b r answer) e answers))
+    (subst (λ (r : Reading HeaderFields). AnswersReading manager given b r answer) e answers))
 
 answers_refused : (manager : Answering) (settings : Settings) (given : List KeyValue) (b more : List ℕ) (answer : Unlocking) (fault : Fault) (at : ℕ) → header settings (start b) ≡ Refused fault at
     → AnswersTo manager settings given b answer → AnswersTo manager settings given (b ++ more) answer
 answers_refused manager settings given b more answer fault at e answers =
-    subst (λ (r : Reading Head). AnswersReading manager given (b ++ more) r answer) (sym (fault_stays (header settings) b more fault at (IsSequential-header settings) e))
-    (subst (λ (r : Reading Head). AnswersReading manager given b r answer) e answers)
+    subst (λ (r : Reading HeaderFields). AnswersReading manager given (b ++ more) r answer) (sym (fault_stays (header settings) b more fault at (IsSequential-header settings) e))
+    (subst (λ (r : Reading HeaderFields). AnswersReading manager given b r answer) e answers)
 
 -- The answer to the header of these bytes is the answer to that of more bytes, or no header is whole
 -- in them, and nothing is released.
@@ -50,7 +50,7 @@ pub data GoesOn (manager : Saying) (settings : Settings) (given : List KeyValue)
       → GoesOn manager settings given b more served answer
 
 goes_by : (manager : Saying) (settings : Settings) (given : List KeyValue) (b more : List ℕ)
-    (served : Option Served) (answer : Unlocking) (r : Reading Head) → header settings (start b) ≡ r
+    (served : Option Served) (answer : Unlocking) (r : Reading HeaderFields) → header settings (start b) ≡ r
     → HasAnswer manager settings given b served answer
     → GoesOn manager settings given b more served answer
 goes_by manager settings given b more served answer (Read parts p) e answers = HasOne (record {
@@ -114,11 +114,11 @@ fault_is (Faulty other) fault e = let same : other ≡ fault = cc in ap (λ (f :
 
 -- ---- a failure
 
-fails_by : (manager : Answering) (settings : Settings) (given : List KeyValue) (b more : List ℕ) (r : Reading Head) → header settings (start b) ≡ r → FailsReading manager given b r
+fails_by : (manager : Answering) (settings : Settings) (given : List KeyValue) (b more : List ℕ) (r : Reading HeaderFields) → header settings (start b) ≡ r → FailsReading manager given b r
     → FailsTo manager settings given (b ++ more)
 fails_by manager settings given b more (Read parts p) e fails =
     let on : header settings (start (b ++ more)) ≡ Read parts (followed p more) = value_stays (header settings) b more parts p (IsSequential-header settings) e in
-    subst (λ (r : Reading Head). FailsReading manager given (b ++ more) r) (sym on)
+    subst (λ (r : Reading HeaderFields). FailsReading manager given (b ++ more) r) (sym on)
     (subst (λ (h : HeaderValue). manager.finds_none (request_of given h) KeyringFault) (sym (header_stays settings b more parts p e)) fails)
 fails_by manager settings given b more (Refused fault at) e fails = absurd fails
 fails_by manager settings given b more Wanting e fails = absurd fails

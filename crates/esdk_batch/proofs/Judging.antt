@@ -7,7 +7,7 @@ use Rattle.esdk_fields.specs.Reading.{Reading, Read, Refused, Wanting, value_of}
 use Rattle.context_codec.specs.Context.{KeyValue}
 use Rattle.header_codec.specs.declared.settings.Settings.{Settings}
 use Rattle.header_codec.specs.Header.{HeaderValue}
-use Rattle.header_codec.specs.Table.{Head, header}
+use Rattle.header_codec.specs.Table.{HeaderFields, header}
 use Rattle.keyring_trait.specs.declared.manager_errors.ManagerError.TheVariants.{KeyringFault}
 use Rattle.keyring_trait.specs.declared.served.Served.{Served}
 use Rattle.keyring_trait.specs.Saying.{Admits, Saying}
@@ -24,7 +24,7 @@ use Rattle.esdk_base.specs.Shelf.{Files}
 use Rattle.esdk_decrypt.specs.Decrypt.{Answering, AnswersReading, FailsReading, FailsTo, answers_at}
 use Rattle.esdk_batch.specs.Answering.{HasAnswer, IsUnserved, KeepsServed, serving}
 use Rattle.esdk_batch.specs.Ending.{Judges}
-use Rattle.esdk_batch.specs.Files.{Gains}
+use Rattle.esdk_batch.specs.Files.{FileGains}
 
 -- ---- what is heard
 
@@ -45,7 +45,7 @@ hears_as asking manager moment v asked short Failed admits (h, same, none) =
 -- ---- the answer that is kept
 
 -- the answer with which bytes are judged, by the one that is kept: where no header is whole, it is the header's fault, or that bytes are missing
-answer_by : Option Unlocking → Reading Head → Unlocking
+answer_by : Option Unlocking → Reading HeaderFields → Unlocking
 answer_by kept (Read parts p) = answer_kept kept
 answer_by kept (Refused fault at) = Refuses fault
 answer_by kept Wanting = Refuses Truncated
@@ -53,7 +53,7 @@ answer_by kept Wanting = Refuses Truncated
 pub answer_for : Settings → List ℕ → Option Unlocking → Unlocking
 answer_for settings bytes kept = answer_by kept (header settings (start bytes))
 
-judged_by : (settings : Settings) (b : List ℕ) (kept : Option Unlocking) (r : Reading Head) → header settings (start b) ≡ r → judged b settings (answer_by kept r) ≡ judged b settings (answer_kept kept)
+judged_by : (settings : Settings) (b : List ℕ) (kept : Option Unlocking) (r : Reading HeaderFields) → header settings (start b) ≡ r → judged b settings (answer_by kept r) ≡ judged b settings (answer_kept kept)
 unfolding answer_by
 judged_by settings b kept (Read parts p) e = refl
 judged_by settings b kept (Refused fault at) e = judged_refused b settings (Refuses fault) fault at e ∙ sym (judged_refused b settings (answer_kept kept) fault at e)
@@ -65,7 +65,7 @@ unfolding answer_for
 judged_for settings b kept = judged_by settings b kept (header settings (start b)) refl
 
 answered_by : (manager : Saying) (moment : ℕ) (given : List KeyValue) (b : List ℕ)
-    (kept : Option Unlocking) (r : Reading Head)
+    (kept : Option Unlocking) (r : Reading HeaderFields)
     → KeepsAnswer manager moment given (option_map (header_of b) (value_of r)) kept
     → AnswersReading (answers_at manager moment) given b r (answer_by kept r)
 unfolding answer_by
@@ -76,7 +76,7 @@ answered_by manager moment given b kept (Refused fault at) keeps = refl
 answered_by manager moment given b kept Wanting keeps = refl
 
 unserved_by : (manager : Saying) (moment : ℕ) (given : List KeyValue) (b : List ℕ)
-    (kept : Option Unlocking) (served : Option Served) (r : Reading Head)
+    (kept : Option Unlocking) (served : Option Served) (r : Reading HeaderFields)
     → KeepsAnswer manager moment given (option_map (header_of b) (value_of r)) kept
     → IsUnserved (answer_kept kept) served → IsUnserved (answer_by kept r) served
 unfolding answer_by
@@ -164,9 +164,9 @@ module _ (manager : Saying) (moment : ℕ) (v : OpeningValue) (piece : List ℕ)
 
 -- ---- a failure
 
-fails_at : (manager : Answering) (given : List KeyValue) (b : List ℕ) (r : Reading Head) (parts : Head) → value_of r ≡ Some parts
+fails_at : (manager : Answering) (given : List KeyValue) (b : List ℕ) (r : Reading HeaderFields) (parts : HeaderFields) → value_of r ≡ Some parts
     → manager.finds_none (request_of given (header_of b parts)) KeyringFault → FailsReading manager given b r
-fails_at manager given b (Read other p) parts e failed = subst (λ (h : Head). manager.finds_none (request_of given (header_of b h)) KeyringFault) (sym (same e)) failed
+fails_at manager given b (Read other p) parts e failed = subst (λ (h : HeaderFields). manager.finds_none (request_of given (header_of b h)) KeyringFault) (sym (same e)) failed
   where
     same : Some other ≡ Some parts → other ≡ parts
     same e = cc
@@ -174,7 +174,7 @@ fails_at manager given b (Refused fault at) parts e failed = absurd (let no : No
 fails_at manager given b Wanting parts e failed = absurd (let no : None ≡ Some parts = e in cc)
 
 -- the manager failed about the header that is whole in these bytes
-pub fails_for : (manager : Answering) (settings : Settings) (given : List KeyValue) (b : List ℕ) (h : HeaderValue) (parts : Head) → value_of (header settings (start b)) ≡ Some parts → h ≡ header_of b parts
+pub fails_for : (manager : Answering) (settings : Settings) (given : List KeyValue) (b : List ℕ) (h : HeaderValue) (parts : HeaderFields) → value_of (header settings (start b)) ≡ Some parts → h ≡ header_of b parts
     → manager.finds_none (request_of given h) KeyringFault → FailsTo manager settings given b
 fails_for manager settings given b h parts whole is failed =
     fails_at manager given b (header settings (start b)) parts whole (subst (λ (g : HeaderValue). manager.finds_none (request_of given g) KeyringFault) is failed)
@@ -190,7 +190,7 @@ pub record Releases (manager : Saying) (s : OpeningValue) (piece to : List ℕ)
   pub bytes_are : bytes ≡ s.taken ++ take used piece
   pub keeps : KeepsServed manager s s.taken → IsKept manager s.settings s.given bytes served kept
   pub more : content (judged bytes s.settings (answer_kept kept)) ≡ content (judged_now s) ++ released
-  pub gains : Gains files after to (take count released)
+  pub gains : FileGains files after to (take count released)
 
 -- how the bytes are judged then
 pub same_judged : (s : OpeningValue) (piece bytes : List ℕ) (kept : Option Unlocking) (used : ℕ) → bytes ≡ s.taken ++ take used piece

@@ -7,7 +7,7 @@ use Rattle.std.proofs.lemmas.Map.{update_apart}
 use Rattle.keyring_trait.specs.declared.journal.JournalLine.{JournalLine}
 use Rattle.desk_core.specs.declared.live_sessions.Desk.{Desk}
 use Rattle.desk_core.specs.Session.{SessionValue, dropped}
-use Rattle.desk_core.specs.Desk.{DeskValue, DropSession, after_call}
+use Rattle.desk_core.specs.Desk.{DeskValue, DropSession, after_desk_call}
 use Rattle.desk_core.specs.Receiving.{handed_over}
 use Rattle.desk_core.specs.Stands.{IsWorth, Stands, last_of}
 use Rattle.esdk_batch.specs.declared.progress.Progress.{Progress}
@@ -54,10 +54,10 @@ keeps_handed last session old new worth handed beyond =
     (handed_over v session h.0 h.1.0, h.1.1, (h.0, handed_desk v session h.0 h.1.0)))
 
 -- it was dropped
-pub keeps_dropped : {M : Type 0} (last session : ℕ) (old new : Desk M) → IsWorth old → ((v : DeskValue) → Stands old v → Stands new (after_call v session false DropSession))
+pub keeps_dropped : {M : Type 0} (last session : ℕ) (old new : Desk M) → IsWorth old → ((v : DeskValue) → Stands old v → Stands new (after_desk_call v session false DropSession))
     → last < session → KeepsSessions last 0 old new
 keeps_dropped last session old new worth dropped beyond =
-    keeps_touched last session old new worth beyond (λ v stands. (after_call v session false DropSession, dropped v stands, ([], dropped_desk v session)))
+    keeps_touched last session old new worth beyond (λ v stands. (after_desk_call v session false DropSession, dropped v stands, ([], dropped_desk v session)))
 
 -- the next number was drawn
 pub keeps_drawn : {M : Type 0} (last : ℕ) (old new : Desk M) → IsWorth old → last ≤ last_of old

@@ -4,7 +4,7 @@ use Rattle.std.specs.Prelude.{option_map}
 use Rattle.esdk_base.specs.Shelf.{Files}
 use Rattle.header_codec.specs.declared.settings.Settings.{Settings}
 use Rattle.header_codec.specs.Header.{HeaderValue}
-use Rattle.header_codec.specs.Table.{Head}
+use Rattle.header_codec.specs.Table.{HeaderFields}
 use Rattle.context_codec.specs.Context.{KeyValue}
 use Rattle.keyring_trait.specs.declared.served.Served.{Served}
 use Rattle.keyring_trait.specs.Manager.{ManagerNow}
@@ -19,7 +19,7 @@ use Rattle.stream_open.specs.Session.{OpeningValue, answer_kept, asked_header, k
 use Rattle.stream_open.proofs.FedPieces.{asked_wants, keeps_some}
 use Rattle.esdk_batch.specs.Answering.{KeepsServed, serving}
 use Rattle.esdk_batch.specs.Ending.{Judges}
-use Rattle.esdk_batch.specs.Files.{Gains}
+use Rattle.esdk_batch.specs.Files.{FileGains}
 use Rattle.esdk_batch.proofs.Judging.{IsKept, Releases, answer_for, hears_as, judges_so, kept_with, served_now, served_still}
 
 -- what is heard changes neither the limits nor the pairs
@@ -65,7 +65,7 @@ module _ {M : Type 0} (state : M → ManagerNow) (manager : Saying) (now : ℕ) 
       let w : OpeningValue = fed.session in
       let wanting : (keeping v fed.heard).answer ≡ None → header_in v.settings (v.taken ++ bytes) ≡ None =
       λ none. ap (λ (s : Settings). header_in s (v.taken ++ bytes)) (sym fed.feeds.settings) ∙ ap (λ (l : List ℕ). header_in w.settings l) (sym fed.feeds.taken)
-      ∙ ap (λ (o : Option Head). option_map (header_of w.taken) o) (fed.feeds.goes.unheard (fed.answer ∙ none)) in
+      ∙ ap (λ (o : Option HeaderFields). option_map (header_of w.taken) o) (fed.feeds.goes.unheard (fed.answer ∙ none)) in
       subst (λ (a : Option Unlocking). IsKept manager v.settings v.given (v.taken ++ bytes) (keeping v fed.heard).served a) (sym fed.answer)
       (kept_then manager now v bytes fed.heard fed.on (hears_as (said_last (state old) (state new)) manager now v (asked_header v bytes) ⊥ fed.heard answers fed.hears) was wanting)
 
@@ -80,7 +80,7 @@ module _ {M : Type 0} (state : M → ManagerNow) (manager : Saying) (now : ℕ) 
       record { moment = kept.moment; keeps = kept.keeps; unserved = kept.unserved }
 
   -- a front of what they release was put behind the file
-  pub fed_judges : (piece to : List ℕ) (files after : Option Files) (used count : ℕ) → take used piece ≡ bytes → Gains files after to (take count given)
+  pub fed_judges : (piece to : List ℕ) (files after : Option Files) (used count : ℕ) → take used piece ≡ bytes → FileGains files after to (take count given)
       → Judges manager v piece to files after (keeping v fed.heard).served (answer_for v.settings (v.taken ++ bytes) fed.session.answer) used count
   fed_judges piece to files after used count front gains =
       let w : OpeningValue = fed.session in

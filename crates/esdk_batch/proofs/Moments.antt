@@ -22,7 +22,7 @@ use Rattle.desk_core.specs.Receiving.{FeedsInto}
 use Rattle.desk_core.specs.Desk.{DeskValue, lines_of, served_by}
 use Rattle.desk_core.specs.SealRequest.{SealRequestValue}
 use Rattle.desk_core.specs.Stands.{Stands, journal_of}
-use Rattle.esdk_batch.specs.Moments.{AnswersTold, ClockAnswers, BearsMoment, GainsAt, HasOneLine, ReadsClock, TakesMoment, Turn}
+use Rattle.esdk_batch.specs.Moments.{AnswersTold, ClockAnswers, BearsMoment, GainsAt, ReadsClock, TakesMoment, TurnMoment}
 
 -- ---- lines at one moment
 
@@ -83,21 +83,21 @@ answers_none before after same = record { given = ap (λ (c : ClockState). c.giv
 
 -- no turn
 pub reads_none : (before after : ClockState) (lines lines_after : List JournalLine) → after ≡ before → lines_after ≡ lines → ReadsClock before after lines lines_after
-reads_none before after lines lines_after same still = record { turns = []; answers = answers_none before after same; journal = still ∙ sym (append-nil lines); bear = All-nil BearsMoment; few = All-nil HasOneLine }
+reads_none before after lines lines_after same still = record { turns = []; answers = answers_none before after same; journal = still ∙ sym (append-nil lines); bear = All-nil BearsMoment; few = All-nil (λ turn. length turn.lines ≤ 1) }
 
 pub reads_more : (before mid after : ClockState) (lines lines_mid lines_after : List JournalLine) → ReadsClock before mid lines lines_mid → ReadsClock mid after lines_mid lines_after
     → ReadsClock before after lines lines_after
 reads_more before mid after lines lines_mid lines_after first later =
-    let one : List JournalLine = flat_map (λ (turn : Turn). turn.lines) first.turns in
-    let two : List JournalLine = flat_map (λ (turn : Turn). turn.lines) later.turns in
+    let one : List JournalLine = flat_map (λ (turn : TurnMoment). turn.lines) first.turns in
+    let two : List JournalLine = flat_map (λ (turn : TurnMoment). turn.lines) later.turns in
     record {
       turns = first.turns ++ later.turns;
-      answers = subst (λ (moments : List ℕ). ClockAnswers before moments after) (sym (map-append (λ (turn : Turn). turn.moment) first.turns later.turns))
-          (answers_more before mid after (map (λ (turn : Turn). turn.moment) first.turns) (map (λ (turn : Turn). turn.moment) later.turns) first.answers later.answers);
+      answers = subst (λ (moments : List ℕ). ClockAnswers before moments after) (sym (map-append (λ (turn : TurnMoment). turn.moment) first.turns later.turns))
+          (answers_more before mid after (map (λ (turn : TurnMoment). turn.moment) first.turns) (map (λ (turn : TurnMoment). turn.moment) later.turns) first.answers later.answers);
       journal = later.journal ∙ ap (λ (l : List JournalLine). l ++ two) first.journal ∙ append_assoc lines one two
-          ∙ ap (λ (l : List JournalLine). lines ++ l) (sym (flat_map-append (λ (turn : Turn). turn.lines) first.turns later.turns));
+          ∙ ap (λ (l : List JournalLine). lines ++ l) (sym (flat_map-append (λ (turn : TurnMoment). turn.lines) first.turns later.turns));
       bear = All-append BearsMoment first.turns later.turns first.bear later.bear;
-      few = All-append HasOneLine first.turns later.turns first.few later.few;
+      few = All-append (λ turn. length turn.lines ≤ 1) first.turns later.turns first.few later.few;
     }
 
 reads_once : (before after : ClockState) (lines lines_after : List JournalLine) → TakesMoment before after lines lines_after → ReadsClock before after lines lines_after
@@ -106,7 +106,7 @@ reads_once before after lines lines_after takes = record {
   answers = takes.answers;
   journal = takes.gains.journal ∙ ap (λ (l : List JournalLine). lines ++ l) (sym (append-nil takes.gains.gained));
   bear = All-cons BearsMoment (record { moment = takes.moment; lines = takes.gains.gained }) [] takes.gains.bears (All-nil BearsMoment);
-  few = All-cons HasOneLine (record { moment = takes.moment; lines = takes.gains.gained }) [] takes.gains.few (All-nil HasOneLine);
+  few = All-cons (λ turn. length turn.lines ≤ 1) (record { moment = takes.moment; lines = takes.gains.gained }) [] takes.gains.few (All-nil (λ turn. length turn.lines ≤ 1));
 }
 
 -- a turn more

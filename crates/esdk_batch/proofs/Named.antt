@@ -8,7 +8,7 @@ use Rattle.std.specs.Cmp.Lexicographic.{nat_list_cmp_total, texts_ties, bytes_de
 use Rattle.std.specs.FinMap.{get, insert, get-insert}
 use Rattle.esdk_base.specs.Shelf.{AppendsTo, Creates, Files, appended, created}
 use Rattle.esdk_batch.specs.FileEndLaws.{gained_nothing}
-use Rattle.esdk_batch.specs.Files.{Empties, Gains, KeepsOthers, Makes, Puts}
+use Rattle.esdk_batch.specs.Files.{Empties, FileGains, KeepsOthers, Makes, Puts}
 
 -- what a name holds once one was changed
 get_changed : (files : Files) (name v q : List ℕ) → get (insert files name v) q ≡ cond (bytes_eq q name) (Some v) (get files q)
@@ -38,7 +38,7 @@ emptied (Some files) name = record {
 
 -- ---- bytes behind a name
 
-appended_by : (held : Option (List ℕ)) (files : Files) (name bytes : List ℕ) → get files name ≡ held → Gains (Some files) (Some (option_map_or (λ before. insert files name (before ++ bytes)) held files)) name bytes
+appended_by : (held : Option (List ℕ)) (files : Files) (name bytes : List ℕ) → get files name ≡ held → FileGains (Some files) (Some (option_map_or (λ before. insert files name (before ++ bytes)) held files)) name bytes
 appended_by None files name bytes has = record {
   keeps = record { tells = refl; others = λ other apart. refl };
   this = has ∙ sym (ap (option_map (λ held. held ++ bytes)) has);
@@ -48,7 +48,7 @@ appended_by (Some before) files name bytes has = record {
   this = get_this files name (before ++ bytes) ∙ sym (ap (option_map (λ held. held ++ bytes)) has);
 }
 
-pub gained : (told : Option Files) (name bytes : List ℕ) → Gains told (option_map (λ files. appended files name bytes) told) name bytes
+pub gained : (told : Option Files) (name bytes : List ℕ) → FileGains told (option_map (λ files. appended files name bytes) told) name bytes
 unfolding appended
 gained None name bytes = record { keeps = record { tells = refl; others = λ other apart. refl }; this = refl }
 gained (Some files) name bytes = appended_by (get files name) files name bytes refl
@@ -60,8 +60,8 @@ makes old new name (Ok done) is = subst (λ files. Empties old files name) (sym 
 makes old new name (Err failed) is = elim is [ inl same ↦ inl same | inr made ↦ inr (subst (λ files. Empties old files name) (sym made) (emptied old name)) ]
 
 pub puts : {T E : Type 0} (old new : Option Files) (name bytes : List ℕ) (result : Result T E) → AppendsTo old new result name bytes → Puts old new name bytes result
-puts old new name bytes (Ok done) is = subst (λ files. Gains old files name bytes) (sym is) (gained old name bytes)
-puts old new name bytes (Err failed) is = (is.0, subst (λ files. Gains old files name (take is.0 bytes)) (sym is.1) (gained old name (take is.0 bytes)))
+puts old new name bytes (Ok done) is = subst (λ files. FileGains old files name bytes) (sym is) (gained old name bytes)
+puts old new name bytes (Err failed) is = (is.0, subst (λ files. FileGains old files name (take is.0 bytes)) (sym is.1) (gained old name (take is.0 bytes)))
 
 -- whatever they answer, every other name holds what it held
 pub makes_keep : {T E : Type 0} (old new : Option Files) (name : List ℕ) (result : Result T E) → Creates old new result name → KeepsOthers old new name
@@ -79,5 +79,5 @@ no_bytes : (bytes : List ℕ) → length bytes ≡ 0 → bytes ≡ []
 no_bytes [] e = refl
 no_bytes (b ∷ bytes) e = absurd (omega (arith, e))
 
-pub puts_none : (told : Option Files) (name bytes : List ℕ) → length bytes ≡ 0 → Gains told told name bytes
-puts_none told name bytes none = subst (λ bytes. Gains told told name bytes) (sym (no_bytes bytes none)) (gained_nothing told name)
+pub puts_none : (told : Option Files) (name bytes : List ℕ) → length bytes ≡ 0 → FileGains told told name bytes
+puts_none told name bytes none = subst (λ bytes. FileGains told told name bytes) (sym (no_bytes bytes none)) (gained_nothing told name)

@@ -9,6 +9,7 @@ use Rattle.esdk_base.specs.Shelf.{Files, file_of}
 use Rattle.esdk_base.specs.Streams.{EntropyState}
 use Rattle.context_codec.specs.Context.{KeyValue}
 use Rattle.header_codec.specs.declared.settings.Settings.{Settings}
+use Rattle.header_codec.specs.Header.{no_limits}
 use Rattle.keyring_trait.specs.declared.journal.JournalLine.{JournalLine}
 use Rattle.keyring_trait.specs.declared.journal.Kind.TheVariants.{Unseal}
 use Rattle.message_format.specs.Judgement.{content}
@@ -30,17 +31,17 @@ use Rattle.esdk_batch.specs.declared.progress.Progress.{Progress}
 use Rattle.esdk_batch.specs.declared.progress.Progress.TheVariants as stages
 use Rattle.esdk_batch.specs.Batch.{WorksSo, kind_of, seen_of}
 use Rattle.keyring_trait.specs.Saying.{Saying}
-use Rattle.esdk_batch.specs.Answering.{no_limits, serving}
+use Rattle.esdk_batch.specs.Answering.{serving}
 use Rattle.esdk_batch.specs.OpenStory.{OpensSo}
 use Rattle.esdk_batch.specs.Opening.{BeginsFile}
-use Rattle.esdk_batch.specs.SealStory.{Seen, held}
-use Rattle.esdk_batch.specs.Underway.{IsLive, IsOpening, TakesTurn}
+use Rattle.esdk_batch.specs.SealStory.{Seen, held_or_none}
+use Rattle.esdk_batch.specs.Underway.{JobIsLive, JobIsOpening, TakesTurn}
 use Rattle.esdk_batch.proofs.FirstTurns.{DrawsAtMost, draws_on, holds_now, left_now, left_others, rest_live, rest_none, takes_first}
 use Rattle.esdk_batch.proofs.Places.{drew_none}
 
 -- the session of a job that gives these pairs
 abbrev pub opening_of : List KeyValue → OpeningValue
-opening_of given = open_session.new_session no_limits given
+opening_of given = open_session.new_opening_session no_limits given
 
 -- The session that begins, and its number.
 pub record HasBegun (given : List KeyValue) (turn : Turn ℕ) (id session : ℕ) : Type 0 where
@@ -52,7 +53,7 @@ pub has_begun : (settings : Settings) (pairs given : List KeyValue) (short : Boo
 has_begun settings pairs given true id session limits same is = absurd cc
 has_begun settings pairs given false id session limits same is = record {
   same = cc;
-  left = ap (λ (s : Settings). Some (Opening (open_session.new_session s pairs))) limits ∙ ap (λ (p : List KeyValue). Some (Opening (open_session.new_session no_limits p))) same;
+  left = ap (λ (s : Settings). Some (Opening (open_session.new_opening_session s pairs))) limits ∙ ap (λ (p : List KeyValue). Some (Opening (open_session.new_opening_session no_limits p))) same;
 }
 
 -- it is live
@@ -65,7 +66,7 @@ nothing_released : (given : List KeyValue) → content (judged_now (opening_of g
 nothing_released given = sym (kept_none no_limits given).released
 
 is_opening : (manager : Saying) (given : List KeyValue) (from to : Option (List ℕ)) (live : Live) → live.at ≡ 0 → live.served ≡ None → to ≡ Some []
-    → IsOpening manager given from to live (opening_of given)
+    → JobIsOpening manager given from to live (opening_of given)
 is_opening manager given from to live none unserved holds = record {
   settings = refl;
   pairs = refl;
@@ -76,7 +77,7 @@ is_opening manager given from to live none unserved holds = record {
     unserved = refl;
   };
   served = unserved;
-  took = record { count = sym none; most = omega (arith, none); front = ap (λ (n : ℕ). drop n (held from)) (sym none) };
+  took = record { count = sym none; most = omega (arith, none); front = ap (λ (n : ℕ). drop n (held_or_none from)) (sym none) };
   holds = holds ∙ ap (λ (l : List ℕ). Some l) (sym (nothing_released given));
 }
 
@@ -107,8 +108,8 @@ open_begins manager job given required v u w lines files left entropy session (s
     (λ before now then_held was found unmade.
     let holds = holds_now files left job.to [] now then_held file.begins.2 was found in
     let opening = is_opening manager given (file_of (Some before) job.from) (file_of (Some then_held) job.to) live (ap (λ (l : Live). l.at) file.begins.0) (ap (λ (l : Live). l.served) file.begins.0) holds in
-    subst (λ (o : Option SessionValue). IsLive manager job.work (file_of (Some before) job.from) (file_of (Some then_held) job.to) [] live o) (sym here)
-    (subst (λ (work : Work). IsLive manager work (file_of (Some before) job.from) (file_of (Some then_held) job.to) [] live (Some s)) (sym work) (refl, opening)))
+    subst (λ (o : Option SessionValue). JobIsLive manager job.work (file_of (Some before) job.from) (file_of (Some then_held) job.to) [] live o) (sym here)
+    (subst (λ (work : Work). JobIsLive manager work (file_of (Some before) job.from) (file_of (Some then_held) job.to) [] live (Some s)) (sym work) (refl, opening)))
 open_begins manager job given required v u w lines files left entropy session (stages.Ended line) work draws is undrawn file =
     let drew = draws_on v u w session lines draws is file.desk in
     takes_first manager job (stages.Ended line) v w lines files left entropy entropy [] drew (rest_none v w lines drew undrawn (ap w.live (sym is) ∙ file.begins.1)) (drew_none entropy)

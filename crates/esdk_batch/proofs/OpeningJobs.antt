@@ -5,8 +5,10 @@ use Rattle.std.proofs.lemmas.List.{take_all, take-append-drop, length-append}
 use Rattle.esdk_fields.specs.declared.faults.Fault.{Fault}
 use Rattle.esdk_fields.specs.declared.refusals.Outside.TheVariants as outsides
 use Rattle.esdk_base.specs.Shelf.{Files, file_of}
+use Rattle.esdk_base.specs.Streams.{most_input}
 use Rattle.context_codec.specs.Context.{KeyValue}
 use Rattle.header_codec.specs.declared.settings.Settings.{Settings}
+use Rattle.header_codec.specs.Header.{no_limits}
 use Rattle.keyring_trait.specs.declared.served.Served.{Served}
 use Rattle.keyring_trait.specs.Unlocking.{Unlocking}
 use Rattle.body_format.specs.declared.verdicts.Verdict.TheVariants.{Faulty}
@@ -18,13 +20,12 @@ use Rattle.batch_report.specs.declared.job_lines.JobEnd.{JobEnd}
 use Rattle.batch_report.specs.declared.job_lines.JobEnd.TheVariants as ends
 use Rattle.esdk_batch.specs.declared.progress.Live.{Live}
 use Rattle.esdk_batch.specs.Ending as ending
-use Rattle.esdk_batch.specs.Ending.{FindsFault, FinishesSo, Judges, OpensPiece}
-use Rattle.esdk_batch.specs.Files.{most_input}
+use Rattle.esdk_batch.specs.Ending.{JobFindsFault, FinishesSo, Judges, JobOpensPiece}
 use Rattle.keyring_trait.specs.Saying.{Saying}
-use Rattle.esdk_batch.specs.Answering.{HasAnswer, HasFailed, no_limits}
-use Rattle.esdk_batch.specs.OpenStory.{HasFault, LeavesFront, ManagerFails, OpensSo, judged_under}
-use Rattle.esdk_batch.specs.SealStory.{Seen, held}
-use Rattle.esdk_batch.specs.Underway.{IsOpening, Took}
+use Rattle.esdk_batch.specs.Answering.{HasAnswer, HasFailed}
+use Rattle.esdk_batch.specs.OpenStory.{OpenJobFindsFault, OpenJobLeavesFront, OpenJobManagerFails, OpensSo, judged_under}
+use Rattle.esdk_batch.specs.SealStory.{Seen, held_or_none}
+use Rattle.esdk_batch.specs.Underway.{JobIsOpening, Took}
 use Rattle.esdk_batch.proofs.Judging.{answer_for, answered_for, judged_for, kept_with}
 use Rattle.esdk_batch.proofs.Judgements.{HasOne, GoesOn, Wants, answers_faulty, content_on, fails_on, fault_is, faulty_on, goes_on}
 use Rattle.esdk_batch.proofs.SealingJobs.{seen_with}
@@ -42,7 +43,7 @@ pub record Answered (manager : Saying) (given : List KeyValue) (b : List ℕ) (s
 
 -- the bytes taken are judged by an answer of the manager's
 judged_so : (manager : Saying) (given : List KeyValue) (from to : Option (List ℕ)) (live : Live)
-    (s : OpeningValue) → IsOpening manager given from to live s
+    (s : OpeningValue) → JobIsOpening manager given from to live s
     → Answered manager given s.taken live.served (judged_now s)
 judged_so manager given from to live s at = record {
   answer = answer_for no_limits s.taken s.answer;
@@ -62,7 +63,7 @@ pub record JudgedWith (manager : Saying) (given : List KeyValue) (s : OpeningVal
 
 judged_with : (manager : Saying) (given : List KeyValue) (from old : Option (List ℕ)) (live : Live)
     (s : OpeningValue) (piece to : List ℕ) (files after : Option Files) (served : Option Served)
-    (answer : Unlocking) (used count : ℕ) → IsOpening manager given from old live s
+    (answer : Unlocking) (used count : ℕ) → JobIsOpening manager given from old live s
     → (j : Judges manager s piece to files after served answer used count)
     → JudgedWith manager given s (s.taken ++ take used piece) served answer j.released
 judged_with manager given from old live s piece to files after served answer used count at j =
@@ -77,12 +78,12 @@ judged_with manager given from old live s piece to files after served answer use
 
 -- ---- what is left
 
-leaves_by : (manager : Saying) (given : List KeyValue) (seen : Seen) (b more : List ℕ) (answer : Unlocking) (n : ℕ) → held seen.from ≡ b ++ more
-    → GoesOn manager no_limits given b more seen.served answer → seen.to ≡ Some (take n (content (judged_under answer b))) → LeavesFront manager given seen
+leaves_by : (manager : Saying) (given : List KeyValue) (seen : Seen) (b more : List ℕ) (answer : Unlocking) (n : ℕ) → held_or_none seen.from ≡ b ++ more
+    → GoesOn manager no_limits given b more seen.served answer → seen.to ≡ Some (take n (content (judged_under answer b))) → OpenJobLeavesFront manager given seen
 leaves_by manager given seen b more answer n from (HasOne answers) to =
     let on = content_on no_limits b more answer in
     let front = front_on n (content (judged_under answer b)) on.0 in
-    let whole : content (judged_under answer b) ++ on.0 ≡ content (judged_under answer (held seen.from)) = sym on.1 ∙ ap (λ (l : List ℕ). content (judged_under answer l)) (sym from) in
+    let whole : content (judged_under answer b) ++ on.0 ≡ content (judged_under answer (held_or_none seen.from)) = sym on.1 ∙ ap (λ (l : List ℕ). content (judged_under answer l)) (sym from) in
     inr (record {
       answer = answer;
       answered = subst (λ (l : List ℕ). HasAnswer manager no_limits given l seen.served answer) (sym from) answers;
@@ -94,14 +95,14 @@ leaves_by manager given seen b more answer n from (Wants wants) to =
     inl (to ∙ ap (λ (l : List ℕ). Some (take n l)) none ∙ ap (λ (l : List ℕ). Some l) (take_all n [] (omega arith)))
 
 -- the file holds nothing, or a front of what all bytes release
-leaves_front : (manager : Saying) (given : List KeyValue) (seen : Seen) (b more : List ℕ) (answer : Unlocking) (n : ℕ) → held seen.from ≡ b ++ more
-    → HasAnswer manager no_limits given b seen.served answer → seen.to ≡ Some (take n (content (judged_under answer b))) → LeavesFront manager given seen
+leaves_front : (manager : Saying) (given : List KeyValue) (seen : Seen) (b more : List ℕ) (answer : Unlocking) (n : ℕ) → held_or_none seen.from ≡ b ++ more
+    → HasAnswer manager no_limits given b seen.served answer → seen.to ≡ Some (take n (content (judged_under answer b))) → OpenJobLeavesFront manager given seen
 leaves_front manager given seen b more answer n from answers to =
     leaves_by manager given seen b more answer n from (goes_on manager no_limits given b more seen.served answer answers) to
 
 -- the bytes have a fault, whatever follows
 faulty_so : (manager : Saying) (given : List KeyValue) (seen : Seen) (b more : List ℕ) (answer : Unlocking) (fault : Fault) → seen.from ≡ Some (b ++ more)
-    → HasAnswer manager no_limits given b seen.served answer → (judged_under answer b).verdict ≡ Faulty fault → seen.to ≡ Some (content (judged_under answer b)) → HasFault manager given seen fault
+    → HasAnswer manager no_limits given b seen.served answer → (judged_under answer b).verdict ≡ Faulty fault → seen.to ≡ Some (content (judged_under answer b)) → OpenJobFindsFault manager given seen fault
 faulty_so manager given seen b more answer fault from answers faulty to =
     let same : judged_under answer (b ++ more) ≡ judged_under answer b = faulty_on no_limits b more answer fault faulty in
     record {
@@ -119,33 +120,33 @@ faulty_so manager given seen b more answer fault from answers faulty to =
 
 -- no piece was read
 unread : (manager : Saying) (given : List KeyValue) (from before to : Option (List ℕ)) (drawn : List ℕ) (live : Live) (s : OpeningValue)
-    → IsOpening manager given from to live s → LeavesFront manager given (seen_with from before to drawn live.served)
+    → JobIsOpening manager given from to live s → OpenJobLeavesFront manager given (seen_with from before to drawn live.served)
 unread manager given from before to drawn live s at =
     let j = judged_so manager given from to live s at in
     let c : List ℕ = content (judged_under j.answer s.taken) in
     let all : take (length c) c ≡ c = take_all (length c) c (omega arith) in
-    leaves_front manager given (seen_with from before to drawn live.served) s.taken (drop live.at (held from)) j.answer (length c) at.took.front j.answered
+    leaves_front manager given (seen_with from before to drawn live.served) s.taken (drop live.at (held_or_none from)) j.answer (length c) at.took.front j.answered
     (at.holds ∙ ap (λ (l : List ℕ). Some l) (ap content (sym j.same) ∙ sym all))
 
 pub open_unread : (manager : Saying) (given : List KeyValue) (from before to : Option (List ℕ)) (drawn : List ℕ) (live : Live) (s : OpeningValue)
-    → IsOpening manager given from to live s → OpensSo manager given (seen_with from before to drawn live.served) (ends.Outside outsides.ShelfFault)
+    → JobIsOpening manager given from to live s → OpensSo manager given (seen_with from before to drawn live.served) (ends.Outside outsides.ShelfFault)
 open_unread manager given from before to drawn live s at = inr (unread manager given from before to drawn live s at)
 
 -- too many bytes came
 pub open_too_long : (manager : Saying) (given : List KeyValue) (from before to : Option (List ℕ)) (drawn : List ℕ) (live : Live) (s : OpeningValue) → live.at ≡ most_input
-    → IsOpening manager given from to live s → OpensSo manager given (seen_with from before to drawn live.served) (ends.Outside outsides.InputTooLong)
+    → JobIsOpening manager given from to live s → OpensSo manager given (seen_with from before to drawn live.served) (ends.Outside outsides.InputTooLong)
 open_too_long manager given from before to drawn live s most at = record {
   front = unread manager given from before to drawn live s at;
-  long = omega (arith, ap length at.took.front, length-append s.taken (drop live.at (held from)), at.took.count, most);
+  long = omega (arith, ap length at.took.front, length-append s.taken (drop live.at (held_or_none from)), at.took.count, most);
 }
 
 -- ---- a piece
 
 -- the session goes on
 pub open_goes : (manager : Saying) (given : List KeyValue) (from : Option (List ℕ)) (live next : Live) (s t : OpeningValue) (piece to : List ℕ) (count : ℕ)
-    (files after : Option Files) (now left : Files) → next.at ≡ live.at + count → next.served ≡ t.served → IsOpening manager given from (file_of (Some now) to) live s
-    → TookPiece s.taken piece live.at count from → files ≡ Some now → after ≡ Some left → OpensPiece manager s piece t to files after
-    → IsOpening manager given from (file_of (Some left) to) next t
+    (files after : Option Files) (now left : Files) → next.at ≡ live.at + count → next.served ≡ t.served → JobIsOpening manager given from (file_of (Some now) to) live s
+    → TookPiece s.taken piece live.at count from → files ≡ Some now → after ≡ Some left → JobOpensPiece manager s piece t to files after
+    → JobIsOpening manager given from (file_of (Some left) to) next t
 open_goes manager given from live next s t piece to count files after now left further served at took is later opens = record {
   settings = opens.feeds.settings ∙ at.settings;
   pairs = opens.feeds.pairs ∙ at.pairs;
@@ -163,13 +164,13 @@ pub record HoldsMore (from : Option (List ℕ)) (b : List ℕ) : Type 0 where
 
 holds_more : (from : Option (List ℕ)) (taken piece : List ℕ) (at count used : ℕ) → TookPiece taken piece at count from → HoldsMore from (taken ++ take used piece)
 holds_more from taken piece at count used took =
-    let rest : List ℕ = drop (at + count) (held from) in
+    let rest : List ℕ = drop (at + count) (held_or_none from) in
     let parts : (taken ++ piece) ++ rest ≡ (taken ++ take used piece) ++ (drop used piece ++ rest) =
     ap (λ (p : List ℕ). (taken ++ p) ++ rest) (sym (take-append-drop used piece)) ∙ ap (λ (l : List ℕ). l ++ rest) (sym (append_assoc taken (take used piece) (drop used piece)))
     ∙ append_assoc (taken ++ take used piece) (drop used piece) rest in
     record {
       more = drop used piece ++ rest;
-      from_is = took.there ∙ ap (λ (l : List ℕ). Some l) (sym (ap held took.there) ∙ took.took.front ∙ parts);
+      from_is = took.there ∙ ap (λ (l : List ℕ). Some l) (sym (ap held_or_none took.there) ∙ took.took.front ∙ parts);
     }
 
 -- a front of what was to be appended
@@ -181,9 +182,9 @@ cut_on n bytes out = (
 )
 
 open_faulty : (manager : Saying) (given : List KeyValue) (from before : Option (List ℕ)) (drawn : List ℕ) (served : Option Served) (live : Live) (s : OpeningValue) (piece to : List ℕ) (count : ℕ)
-    (files after : Option Files) (now left : Files) (fault : Fault) → IsOpening manager given from (file_of (Some now) to) live s
-    → TookPiece s.taken piece live.at count from → files ≡ Some now → after ≡ Some left → FindsFault manager s piece to files after served fault
-    → HasFault manager given (seen_with from before (file_of (Some left) to) drawn served) fault
+    (files after : Option Files) (now left : Files) (fault : Fault) → JobIsOpening manager given from (file_of (Some now) to) live s
+    → TookPiece s.taken piece live.at count from → files ≡ Some now → after ≡ Some left → JobFindsFault manager s piece to files after served fault
+    → OpenJobFindsFault manager given (seen_with from before (file_of (Some left) to) drawn served) fault
 open_faulty manager given from before drawn served live s piece to count files after now left fault at took is later finds =
     let j = finds.judges in
     let b : List ℕ = s.taken ++ take finds.used piece in
@@ -197,21 +198,21 @@ open_faulty manager given from before drawn served live s piece to count files a
     ∙ ap (λ (l : List ℕ). Some l) (ap (λ (l : List ℕ). content (judged_now s) ++ l) all ∙ sym with.content))
 
 open_cut : (manager : Saying) (given : List KeyValue) (from before : Option (List ℕ)) (drawn : List ℕ) (served : Option Served) (live : Live) (s : OpeningValue) (piece to : List ℕ) (count : ℕ)
-    (files after : Option Files) (now left : Files) (answer : Unlocking) (used n : ℕ) → IsOpening manager given from (file_of (Some now) to) live s
+    (files after : Option Files) (now left : Files) (answer : Unlocking) (used n : ℕ) → JobIsOpening manager given from (file_of (Some now) to) live s
     → TookPiece s.taken piece live.at count from → files ≡ Some now → after ≡ Some left → Judges manager s piece to files after served answer used n
-    → LeavesFront manager given (seen_with from before (file_of (Some left) to) drawn served)
+    → OpenJobLeavesFront manager given (seen_with from before (file_of (Some left) to) drawn served)
 open_cut manager given from before drawn served live s piece to count files after now left answer used n at took is later j =
     let b : List ℕ = s.taken ++ take used piece in
     let more = holds_more from s.taken piece live.at count used took in
     let with = judged_with manager given from (file_of (Some now) to) live s piece to files after served answer used n at j in
     let cut = cut_on n (content (judged_now s)) j.released in
-    leaves_front manager given (seen_with from before (file_of (Some left) to) drawn served) b more.more answer cut.0 (ap held more.from_is) with.answered
+    leaves_front manager given (seen_with from before (file_of (Some left) to) drawn served) b more.more answer cut.0 (ap held_or_none more.from_is) with.answered
     (gains_behind files after now left to (take n j.released) (content (judged_now s)) is later j.gains at.holds
     ∙ ap (λ (l : List ℕ). Some l) (cut.1 ∙ ap (take cut.0) (sym with.content)))
 
 open_fails : (manager : Saying) (given : List KeyValue) (from before to after : Option (List ℕ)) (drawn : List ℕ) (served : Option Served) (live : Live) (s : OpeningValue) (piece : List ℕ) (count used : ℕ)
-    → served ≡ None → IsOpening manager given from to live s → TookPiece s.taken piece live.at count from
-    → HasFailed manager s.settings s.given (s.taken ++ take used piece) → after ≡ Some [] → ManagerFails manager given (seen_with from before after drawn served)
+    → served ≡ None → JobIsOpening manager given from to live s → TookPiece s.taken piece live.at count from
+    → HasFailed manager s.settings s.given (s.taken ++ take used piece) → after ≡ Some [] → OpenJobManagerFails manager given (seen_with from before after drawn served)
 open_fails manager given from before to after drawn served live s piece count used unserved at took fails nothing =
     let b : List ℕ = s.taken ++ take used piece in
     let more = holds_more from s.taken piece live.at count used took in
@@ -232,8 +233,8 @@ open_fails manager given from before to after drawn served live s piece count us
 -- how a job ends whose piece was fed
 pub open_ends : (manager : Saying) (given : List KeyValue) (from before : Option (List ℕ)) (drawn : List ℕ) (served : Option Served) (live : Live) (s : OpeningValue) (piece to : List ℕ) (count : ℕ)
     (session : Option SessionValue) (files after : Option Files) (now left : Files) (end : JobEnd) → (end ≡ ends.Outside outsides.KeyringFault → served ≡ None)
-    → IsOpening manager given from (file_of (Some now) to) live s → TookPiece s.taken piece live.at count from → files ≡ Some now → after ≡ Some left
-    → ending.OpensSo manager s piece session to files after served (Some end) → OpensSo manager given (seen_with from before (file_of (Some left) to) drawn served) end
+    → JobIsOpening manager given from (file_of (Some now) to) live s → TookPiece s.taken piece live.at count from → files ≡ Some now → after ≡ Some left
+    → ending.PieceOpensSo manager s piece session to files after served (Some end) → OpensSo manager given (seen_with from before (file_of (Some left) to) drawn served) end
 open_ends manager given from before drawn served live s piece to count session files after now left (ends.Fault fault) unserved at took is later opens =
     open_faulty manager given from before drawn served live s piece to count files after now left fault at took is later opens.1
 open_ends manager given from before drawn served live s piece to count session files after now left (ends.Outside outsides.KeyringFault) unserved at took is later opens =
@@ -247,7 +248,7 @@ open_ends manager given from before drawn served live s piece to count session f
 
 -- how a job ends whose file's end was seen
 pub open_finishes : (manager : Saying) (given : List KeyValue) (from before : Option (List ℕ)) (drawn : List ℕ) (live : Live) (s : OpeningValue) (to : List ℕ)
-    (files after : Option Files) (now left : Files) (end : JobEnd) → IsOpening manager given from (file_of (Some now) to) live s → from ≡ Some s.taken
+    (files after : Option Files) (now left : Files) (end : JobEnd) → JobIsOpening manager given from (file_of (Some now) to) live s → from ≡ Some s.taken
     → files ≡ Some now → after ≡ Some left → FinishesSo (Opening s) to files after end → OpensSo manager given (seen_with from before (file_of (Some left) to) drawn live.served) end
 open_finishes manager given from before drawn live s to files after now left ends.Done at whole is later (verdict, gains) =
     let j = judged_so manager given from (file_of (Some now) to) live s at in

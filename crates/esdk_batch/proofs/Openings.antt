@@ -7,17 +7,17 @@ use Rattle.esdk_fields.specs.declared.refusals.Refusal.{Refusal}
 use Rattle.context_codec.specs.Context.{KeyValue}
 use Rattle.header_codec.specs.declared.settings.Settings.{Settings}
 use Rattle.keyring_trait.specs.Materials.{EncMaterialsValue}
-use Rattle.stream_seal.specs.Start.{start_refusal}
+use Rattle.stream_seal.specs.Start.{start_refusal, drawn_id}
 use Rattle.desk_core.specs.declared.errors.DeskError.{DeskError}
 use Rattle.desk_core.specs.declared.errors.DeskError.TheVariants.{NotLive}
 use Rattle.desk_core.specs.SealRequest.{SealRequestValue}
-use Rattle.desk_core.specs.Session.{Fails, Gives, NoReply, Refuses, Reply, SessionValue, Turn, begun, id_in, open_opened, seal_opened}
+use Rattle.desk_core.specs.Session.{Fails, Gives, NoReply, Refuses, Reply, SessionValue, Turn, begun_turn, open_opened, seal_opened}
 
 pub open_error_lives : (settings : Settings) (given : List KeyValue) (short : Bool) (id : ℕ) (error : DeskError) → Err error ≡ (open_opened settings given short id).answer → error ≡ NotLive → ⊥
 open_error_lives settings given true id error is dead = cc
 open_error_lives settings given false id error is dead = absurd cc
 
-begun_lives : (request : SealRequestValue) (random : List ℕ) (m : EncMaterialsValue) (id : ℕ) (refusal : Option Refusal) (error : DeskError) → Err error ≡ (begun request random m id refusal).answer
+begun_lives : (request : SealRequestValue) (random : List ℕ) (m : EncMaterialsValue) (id : ℕ) (refusal : Option Refusal) (error : DeskError) → Err error ≡ (begun_turn request random m id refusal).answer
     → error ≡ NotLive → ⊥
 begun_lives request random m id None error is dead = absurd cc
 begun_lives request random m id (Some refusal) error is dead = cc
@@ -26,12 +26,12 @@ pub seal_error_lives : (request : SealRequestValue) (random : List ℕ) (reply :
     → error ≡ NotLive → ⊥
 seal_error_lives request random NoReply short id error is dead = cc
 seal_error_lives request random (Gives m) true id error is dead = cc
-seal_error_lives request random (Gives m) false id error is dead = begun_lives request random m id (start_refusal m request.max_keys (id_in random)) error is dead
+seal_error_lives request random (Gives m) false id error is dead = begun_lives request random m id (start_refusal m request.max_keys (drawn_id random)) error is dead
 seal_error_lives request random (Refuses refusal) short id error is dead = cc
 seal_error_lives request random Fails short id error is dead = cc
 
-begun_none : (request : SealRequestValue) (random : List ℕ) (m : EncMaterialsValue) (id : ℕ) (refusal : Option Refusal) (error : DeskError) → Err error ≡ (begun request random m id refusal).answer
-    → (begun request random m id refusal).left ≡ None
+begun_none : (request : SealRequestValue) (random : List ℕ) (m : EncMaterialsValue) (id : ℕ) (refusal : Option Refusal) (error : DeskError) → Err error ≡ (begun_turn request random m id refusal).answer
+    → (begun_turn request random m id refusal).left ≡ None
 begun_none request random m id None error is = absurd cc
 begun_none request random m id (Some refusal) error is = refl
 
@@ -40,7 +40,7 @@ pub seal_error_none : (request : SealRequestValue) (random : List ℕ) (reply : 
     → (seal_opened request random reply short id).left ≡ None
 seal_error_none request random NoReply short id error is = refl
 seal_error_none request random (Gives m) true id error is = refl
-seal_error_none request random (Gives m) false id error is = begun_none request random m id (start_refusal m request.max_keys (id_in random)) error is
+seal_error_none request random (Gives m) false id error is = begun_none request random m id (start_refusal m request.max_keys (drawn_id random)) error is
 seal_error_none request random (Refuses refusal) short id error is = refl
 seal_error_none request random Fails short id error is = refl
 
@@ -56,8 +56,8 @@ pub open_lives : (settings : Settings) (given : List KeyValue) (short : Bool) (i
 open_lives settings given true id session is = absurd cc
 open_lives settings given false id session is = let same : session ≡ id = cc in record { left = _; is = refl; same = same }
 
-begun_opened : (request : SealRequestValue) (random : List ℕ) (m : EncMaterialsValue) (id session : ℕ) (refusal : Option Refusal) → Ok session ≡ (begun request random m id refusal).answer
-    → IsOpened (begun request random m id refusal) id session
+begun_opened : (request : SealRequestValue) (random : List ℕ) (m : EncMaterialsValue) (id session : ℕ) (refusal : Option Refusal) → Ok session ≡ (begun_turn request random m id refusal).answer
+    → IsOpened (begun_turn request random m id refusal) id session
 begun_opened request random m id session None is = let same : session ≡ id = cc in record { left = _; is = refl; same = same }
 begun_opened request random m id session (Some refusal) is = absurd cc
 
@@ -65,7 +65,7 @@ pub seal_lives : (request : SealRequestValue) (random : List ℕ) (reply : Reply
     → IsOpened (seal_opened request random reply short id) id session
 seal_lives request random NoReply short id session is = absurd cc
 seal_lives request random (Gives m) true id session is = absurd cc
-seal_lives request random (Gives m) false id session is = begun_opened request random m id session (start_refusal m request.max_keys (id_in random)) is
+seal_lives request random (Gives m) false id session is = begun_opened request random m id session (start_refusal m request.max_keys (drawn_id random)) is
 seal_lives request random (Refuses refusal) short id session is = absurd cc
 seal_lives request random Fails short id session is = absurd cc
 

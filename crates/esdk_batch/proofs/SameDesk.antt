@@ -9,7 +9,7 @@ use Rattle.desk_core.specs.declared.session.Session.TheVariants as machines
 use Rattle.desk_core.specs.declared.live_sessions.Desk.{Desk}
 use Rattle.desk_core.specs.Session.{SessionValue, Sealing, Opening}
 use Rattle.desk_core.specs.Desk.{DeskValue}
-use Rattle.desk_core.specs.Stands.{Stands, StandsAt, machine_at}
+use Rattle.desk_core.specs.Stands.{Stands, StandsAtNumber, machine_at}
 use Rattle.job_file.specs.declared.job.Job.{Job}
 use Rattle.job_file.specs.declared.job.Work.{Work}
 use Rattle.job_file.specs.declared.job.Work.TheVariants.{Encrypt, Decrypt}
@@ -17,21 +17,21 @@ use Rattle.esdk_batch.specs.declared.progress.Progress.{Progress}
 use Rattle.esdk_batch.specs.declared.progress.Progress.TheVariants as stages
 use Rattle.esdk_batch.specs.Turns.{AddsLines, Knows}
 
-seals_too : (machine : Option Session) (a b : Option SessionValue) (s : SealingValue) → StandsAt machine a → StandsAt machine b → a ≡ Some (Sealing s) → (t : SealingValue) × (b ≡ Some (Sealing t))
-seals_too None a b s one other is = absurd (subst (StandsAt None) is one)
+seals_too : (machine : Option Session) (a b : Option SessionValue) (s : SealingValue) → StandsAtNumber machine a → StandsAtNumber machine b → a ≡ Some (Sealing s) → (t : SealingValue) × (b ≡ Some (Sealing t))
+seals_too None a b s one other is = absurd (subst (StandsAtNumber None) is one)
 seals_too (Some (machines.Sealing m)) a None s one other is = absurd other
 seals_too (Some (machines.Sealing m)) a (Some (Sealing t)) s one other is = (t, refl)
 seals_too (Some (machines.Sealing m)) a (Some (Opening t)) s one other is = absurd other.0
-seals_too (Some (machines.Opening m)) a b s one other is = absurd (subst (StandsAt (Some (machines.Opening m))) is one).0
+seals_too (Some (machines.Opening m)) a b s one other is = absurd (subst (StandsAtNumber (Some (machines.Opening m))) is one).0
 
-opens_too : (machine : Option Session) (a b : Option SessionValue) (s : OpeningValue) (served : Option Served) → StandsAt machine a → StandsAt machine b → a ≡ Some (Opening s) → served ≡ s.served
+opens_too : (machine : Option Session) (a b : Option SessionValue) (s : OpeningValue) (served : Option Served) → StandsAtNumber machine a → StandsAtNumber machine b → a ≡ Some (Opening s) → served ≡ s.served
     → (t : OpeningValue) × (b ≡ Some (Opening t)) × (served ≡ t.served)
-opens_too None a b s served one other is knows = absurd (subst (StandsAt None) is one)
-opens_too (Some (machines.Sealing m)) a b s served one other is knows = absurd (subst (StandsAt (Some (machines.Sealing m))) is one).0
+opens_too None a b s served one other is knows = absurd (subst (StandsAtNumber None) is one)
+opens_too (Some (machines.Sealing m)) a b s served one other is knows = absurd (subst (StandsAtNumber (Some (machines.Sealing m))) is one).0
 opens_too (Some (machines.Opening m)) a None s served one other is knows = absurd other
 opens_too (Some (machines.Opening m)) a (Some (Sealing t)) s served one other is knows = absurd other.0
 opens_too (Some (machines.Opening m)) a (Some (Opening t)) s served one other is knows =
-    let first = (subst (StandsAt (Some (machines.Opening m))) is one).0.served in (
+    let first = (subst (StandsAtNumber (Some (machines.Opening m))) is one).0.served in (
       t,
       refl,
       knows ∙ sym first ∙ other.0.served,

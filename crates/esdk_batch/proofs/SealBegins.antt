@@ -14,13 +14,13 @@ use Rattle.keyring_trait.specs.Materials.{EncMaterialsValue}
 use Rattle.stream_seal.specs.Feeding.{BeginsFed}
 use Rattle.stream_seal.specs.Session as seal
 use Rattle.stream_seal.specs.Session.{SealingValue, beginning, under_of}
-use Rattle.stream_seal.specs.Start.{message_of, start_refusal}
+use Rattle.stream_seal.specs.Start.{message_of, start_refusal, drawn_id, drawn_rest}
 use Rattle.stream_seal.proofs.AnyCut.{message_is}
 use Rattle.stream_seal.proofs.Feeding.{begin_fed}
-use Rattle.esdk_encrypt.specs.Encrypt.{draws, drawn_id, drawn_rest}
+use Rattle.esdk_encrypt.specs.Encrypt.{drawn_count}
 use Rattle.desk_core.specs.declared.errors.DeskError.{DeskError}
 use Rattle.desk_core.specs.SealRequest.{SealRequestValue}
-use Rattle.desk_core.specs.Session.{Reply, Sealing, SessionValue, id_in, seal_opened}
+use Rattle.desk_core.specs.Session.{Reply, Sealing, SessionValue, seal_opened}
 use Rattle.desk_core.specs.Desk.{DeskValue, served_by}
 use Rattle.job_file.specs.declared.job.Job.{Job}
 use Rattle.job_file.specs.declared.job.Work.{Work}
@@ -34,9 +34,9 @@ use Rattle.esdk_batch.specs.declared.progress.Progress.TheVariants as stages
 use Rattle.esdk_batch.specs.Batch.{Draws, WorksSo, kind_of, seen_of}
 use Rattle.esdk_batch.specs.Ending.{EndsFor}
 use Rattle.keyring_trait.specs.Saying.{Saying}
-use Rattle.esdk_batch.specs.Opening.{BeginsFile, request_of}
-use Rattle.esdk_batch.specs.SealStory.{IsGiven, SealAsked, SealsSo, Seen, held, sealed_text, wish_of}
-use Rattle.esdk_batch.specs.Underway.{IsLive, IsSealing, TakesTurn}
+use Rattle.esdk_batch.specs.Opening.{BeginsFile, job_request}
+use Rattle.esdk_batch.specs.SealStory.{JobIsGiven, SealAsked, SealsSo, Seen, held_or_none, sealed_text, wish_of}
+use Rattle.esdk_batch.specs.Underway.{JobIsLive, JobIsSealing, TakesTurn}
 use Rattle.esdk_batch.proofs.FirstTurns.{DrawsAtMost, draws_none, draws_on, holds_now, keeps_all, left_now, left_others, rest_live, rest_none, same_now, takes_first}
 use Rattle.esdk_batch.proofs.Places.{drew_kept}
 use Rattle.esdk_batch.proofs.SealTurns.{HasBegun, IsAnswered, Says, is_given, seals_none}
@@ -68,8 +68,8 @@ draws_nothing manager job asked v files entropy spent next work kept same_drawn 
 -- the desk answered an error
 pub opens_none : (manager : Saying) (job : Job) (asked : SealAsked) (v w : DeskValue) (lines : List JournalLine) (files : Option Files) (entropy spent : EntropyState) (random : List ℕ)
     (reply : Reply) (short : Bool) (id wraps : ℕ) (error : DeskError) (end : JobEnd) (served : Option Served) (next : Progress) → job.work ≡ work_of asked → DrawsAtMost v w lines
-    → v.live (v.last + 1) ≡ None → w.live (v.last + 1) ≡ None → Draws entropy spent random → length random ≡ draws wraps → wraps ≡ manager.wraps → Says manager asked random reply
-    → served ≡ served_by reply → Err error ≡ (seal_opened (request_of asked) random reply short id).answer → EndsFor error (Ok end)
+    → v.live (v.last + 1) ≡ None → w.live (v.last + 1) ≡ None → Draws entropy spent random → length random ≡ drawn_count wraps → wraps ≡ manager.wraps → Says manager asked random reply
+    → served ≡ served_by reply → Err error ≡ (seal_opened (job_request asked) random reply short id).answer → EndsFor error (Ok end)
     → next ≡ stages.Ended (record { kind = Seal; end = end; served = served }) → TakesTurn manager job stages.Waiting next v w files files entropy spent
 opens_none manager job asked v w lines files entropy spent random reply short id wraps error end served next work drew undrawn over bytes count same_wraps says serves is ends_for ends_so =
     subst (λ (p : Progress). TakesTurn manager job stages.Waiting p v w files files entropy spent) (sym ends_so) (
@@ -77,7 +77,7 @@ opens_none manager job asked v w lines files entropy spent random reply short id
     (λ before now then_held was found unmade.
     let same = same_now files files job.to before now then_held refl was found unmade in
     let line : JobLine = record { kind = Seal; end = end; served = served } in
-    let answered : IsAnswered manager asked (seen_of job before then_held random line) random reply = record { drawn = refl; count = count ∙ ap draws same_wraps; says = says; served = serves; same = same } in
+    let answered : IsAnswered manager asked (seen_of job before then_held random line) random reply = record { drawn = refl; count = count ∙ ap drawn_count same_wraps; says = says; served = serves; same = same } in
     sealed_line manager job asked _ line work refl (seals_none manager asked _ random reply short id error end answered is ends_for)))
 
 -- ---- a session began
@@ -90,18 +90,18 @@ begins_front n first more whole is =
 -- What was drawn, given and begun with.
 pub record IsBegun (manager : Saying) (asked : SealAsked) (random : List ℕ) (m : EncMaterialsValue) (served : Option Served) : Type 0 where
   pub wide : 1 ≤ asked.frame
-  pub count : length random ≡ draws manager.wraps
+  pub count : length random ≡ drawn_count manager.wraps
   pub moment : ℕ
   pub gives : manager.gives (wish_of asked) moment (drawn_rest random) m
-  pub begins : start_refusal m None (id_in random) ≡ None
+  pub begins : start_refusal m None (drawn_id random) ≡ None
   pub serves : served ≡ Some m.served
 
 pub is_begun : (manager : Saying) (asked : SealAsked) (request : SealRequestValue) (random : List ℕ) (reply : Reply) (short : Bool) (id session wraps : ℕ) (served : Option Served)
-    (b : HasBegun asked random reply short id session) → request ≡ request_of asked → 1 ≤ request.size → length random ≡ draws wraps → wraps ≡ manager.wraps → Says manager asked random reply
+    (b : HasBegun asked random reply short id session) → request ≡ job_request asked → 1 ≤ request.size → length random ≡ drawn_count wraps → wraps ≡ manager.wraps → Says manager asked random reply
     → served ≡ served_by reply → IsBegun manager asked random b.materials served
 is_begun manager asked request random reply short id session wraps served b same wide count same_wraps says serves = record {
   wide = subst (λ (r : SealRequestValue). 1 ≤ r.size) same wide;
-  count = count ∙ ap draws same_wraps;
+  count = count ∙ ap drawn_count same_wraps;
   moment = (subst (λ (r : Reply). Says manager asked random r) b.gives says).0.0;
   gives = (subst (λ (r : Reply). Says manager asked random r) b.gives says).0.1;
   begins = b.begins;
@@ -110,13 +110,13 @@ is_begun manager asked request random reply short id session wraps served b same
 
 -- the session
 abbrev pub sealing_of : SealAsked → List ℕ → EncMaterialsValue → SealingValue
-sealing_of asked random m = seal.new_session m asked.declared asked.frame (id_in random)
+sealing_of asked random m = seal.new_sealing_session m asked.declared asked.frame (drawn_id random)
 
 is_sealing : (manager : Saying) (asked : SealAsked) (from to : Option (List ℕ)) (random : List ℕ) (m : EncMaterialsValue) (served : Option Served) (live : Live)
     → IsBegun manager asked random m served → live.at ≡ 0 → live.served ≡ served → to ≡ Some (beginning (sealing_of asked random m))
-    → IsSealing manager asked from to random live (sealing_of asked random m)
+    → JobIsSealing manager asked from to random live (sealing_of asked random m)
 is_sealing manager asked from to random m served live begun none serves holds =
-    let fed : BeginsFed (sealing_of asked random m) = begin_fed m asked.declared asked.frame (id_in random) begun.wide in
+    let fed : BeginsFed (sealing_of asked random m) = begin_fed m asked.declared asked.frame (drawn_id random) begun.wide in
     record {
       count = begun.count;
       moment = begun.moment;
@@ -127,7 +127,7 @@ is_sealing manager asked from to random m served live begun none serves holds =
       size = refl;
       id = refl;
       is_fed = fed.is_fed;
-      took = record { count = sym none; most = omega (arith, none); front = ap (λ (n : ℕ). drop n (held from)) (sym none) };
+      took = record { count = sym none; most = omega (arith, none); front = ap (λ (n : ℕ). drop n (held_or_none from)) (sym none) };
       holds = holds ∙ ap (λ (l : List ℕ). Some l) (sym fed.given);
     }
 
@@ -135,7 +135,7 @@ is_sealing manager asked from to random m served live begun none serves holds =
 fails_so : (manager : Saying) (asked : SealAsked) (seen : Seen) (random : List ℕ) (m : EncMaterialsValue) (served : Option Served) → IsBegun manager asked random m served → seen.drawn ≡ random
     → seen.served ≡ served → (seen.to ≡ seen.before) ⊎ ((n : ℕ) × (seen.to ≡ Some (take n (beginning (sealing_of asked random m))))) → SealsSo manager asked seen (ends.Outside outsides.ShelfFault)
 fails_so manager asked seen random m served begun drawn serves left =
-    let given : IsGiven manager asked seen m = is_given manager asked seen random m begun.moment drawn begun.count begun.gives (serves ∙ begun.serves) in
+    let given : JobIsGiven manager asked seen m = is_given manager asked seen random m begun.moment drawn begun.count begun.gives (serves ∙ begun.serves) in
     let first : List ℕ = beginning (sealing_of asked random m) in
     let text : List ℕ = sealed_text asked seen in
     record {
@@ -150,7 +150,7 @@ fails_so manager asked seen random m served begun drawn serves left =
           count = min front.0 (length first);
           front = front.1
               ∙ ap (λ (l : List ℕ). Some l)
-              (begins_front front.0 first (framed_body asked.frame (under_of (sealing_of asked random m)) text) (message_of m asked.frame (id_in random) text) (message_is (sealing_of asked random m) text)
+              (begins_front front.0 first (framed_body asked.frame (under_of (sealing_of asked random m)) text) (message_of m asked.frame (drawn_id random) text) (message_is (sealing_of asked random m) text)
               ∙ ap (λ (d : List ℕ). take (min front.0 (length first)) (message_of m asked.frame (drawn_id d) text)) (sym drawn));
         })
       ];
@@ -172,8 +172,8 @@ seal_begins manager job asked v u w lines files left entropy spent random m sess
     let holds = holds_now files left job.to (beginning (sealing_of asked random m)) now then_held file.begins.2 was found in
     let sealing = is_sealing manager asked (file_of (Some before) job.from) (file_of (Some then_held) job.to) random m served live begun (ap (λ (l : Live). l.at) file.begins.0)
     (ap (λ (l : Live). l.served) file.begins.0) holds in
-    subst (λ (o : Option SessionValue). IsLive manager job.work (file_of (Some before) job.from) (file_of (Some then_held) job.to) random live o) (sym here)
-    (subst (λ (work : Work). IsLive manager work (file_of (Some before) job.from) (file_of (Some then_held) job.to) random live (Some s)) (sym work) sealing))
+    subst (λ (o : Option SessionValue). JobIsLive manager job.work (file_of (Some before) job.from) (file_of (Some then_held) job.to) random live o) (sym here)
+    (subst (λ (work : Work). JobIsLive manager work (file_of (Some before) job.from) (file_of (Some then_held) job.to) random live (Some s)) (sym work) sealing))
 seal_begins manager job asked v u w lines files left entropy spent random m session served (stages.Ended line) work draws is undrawn bytes begun file =
     let drew = draws_on v u w session lines draws is file.desk in
     takes_first manager job (stages.Ended line) v w lines files left entropy spent random drew (rest_none v w lines drew undrawn (ap w.live (sym is) ∙ file.begins.1)) bytes

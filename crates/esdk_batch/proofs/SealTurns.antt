@@ -16,22 +16,22 @@ use Rattle.keyring_trait.specs.Manager.{ManagerMeaning, ManagerNow, RefusalStand
 use Rattle.keyring_trait.specs.Materials.{EncMaterialsValue}
 use Rattle.keyring_trait.specs.Saying.{Admits, Saying, said_between, said_last}
 use Rattle.stream_seal.specs.Session as seal
-use Rattle.stream_seal.specs.Start.{start_refusal}
-use Rattle.esdk_encrypt.specs.Encrypt.{draws, drawn_rest}
+use Rattle.stream_seal.specs.Start.{start_refusal, drawn_id, drawn_rest}
+use Rattle.esdk_encrypt.specs.Encrypt.{drawn_count}
 use Rattle.esdk_encrypt.proofs.Fitting.{few_begin}
 use Rattle.desk_core.specs.declared.errors.DeskError.{DeskError}
 use Rattle.desk_core.specs.declared.errors.DeskError.TheVariants as errors
 use Rattle.desk_core.specs.SealRequest.{SealRequestValue}
-use Rattle.desk_core.specs.Session.{Fails, Gives, NoReply, Refuses, Reply, Sealing, SessionValue, begun, id_in, seal_opened}
+use Rattle.desk_core.specs.Session.{Fails, Gives, NoReply, Refuses, Reply, Sealing, SessionValue, begun_turn, seal_opened}
 use Rattle.desk_core.specs.Desk.{DeskValue, after_turn, drawn, lines_of, served_by}
 use Rattle.desk_core.specs.Stands.{Stands, journal_of}
-use Rattle.desk_core.specs.Calls.{IsReply, IsWritable, OpensSeal}
+use Rattle.desk_core.specs.Calls.{IsReply, MaterialsAreWritable, OpensSeal}
 use Rattle.desk_core.specs.declared.live_sessions.Desk.{Desk}
 use Rattle.batch_report.specs.declared.job_lines.JobEnd.{JobEnd}
 use Rattle.batch_report.specs.declared.job_lines.JobEnd.TheVariants as ends
 use Rattle.esdk_batch.specs.Ending.{EndsFor}
-use Rattle.esdk_batch.specs.Opening.{request_of}
-use Rattle.esdk_batch.specs.SealStory.{IsGiven, IsGivenNone, SealAsked, SealsSo, Seen, wish_of}
+use Rattle.esdk_batch.specs.Opening.{job_request}
+use Rattle.esdk_batch.specs.SealStory.{JobIsGiven, IsGivenNone, SealAsked, SealsSo, Seen, wish_of}
 use Rattle.esdk_batch.proofs.FirstTurns.{served_behind}
 
 -- ---- what the manager said
@@ -49,7 +49,7 @@ IsOfManager refusal = ⊥
 abbrev pub Says : Saying → SealAsked → List ℕ → Reply → Type 0
 Says manager asked random NoReply = ⊤
 Says manager asked random (Gives m) =
-    ((moment : ℕ) × manager.gives (wish_of asked) moment (drawn_rest random) m) × IsWritable m
+    ((moment : ℕ) × manager.gives (wish_of asked) moment (drawn_rest random) m) × MaterialsAreWritable m
 Says manager asked random (Refuses refusal) = IsOfManager refusal × manager.gives_none (wish_of asked) (managers.Refusal refusal)
 Says manager asked random Fails = manager.gives_none (wish_of asked) managers.KeyringFault
 
@@ -62,7 +62,7 @@ of_manager meaning context refusal stands = absurd stands
 
 pub says : (manager : Saying) (old new : ManagerNow) (asked : SealAsked) (now : ℕ)
     (random : List ℕ) (short : Bool) (reply : Reply) → Admits manager (said_between old new)
-    → IsReply (said_last old new) (request_of asked) now random short reply
+    → IsReply (said_last old new) (job_request asked) now random short reply
     → Says manager asked random reply
 says manager old new asked now random short NoReply admits replies = tt
 says manager old new asked now random short (Gives m) admits replies =
@@ -79,15 +79,15 @@ says manager old new asked now random short Fails admits replies =
 -- Bytes were drawn and the manager said this; the file is as before the batch.
 pub record IsAnswered (manager : Saying) (asked : SealAsked) (seen : Seen) (random : List ℕ) (reply : Reply) : Type 0 where
   pub drawn : seen.drawn ≡ random
-  pub count : length random ≡ draws manager.wraps
+  pub count : length random ≡ drawn_count manager.wraps
   pub says : Says manager asked random reply
   pub served : seen.served ≡ served_by reply
   pub same : seen.to ≡ seen.before
 
 pub is_given : (manager : Saying) (asked : SealAsked) (seen : Seen) (random : List ℕ)
-    (m : EncMaterialsValue) (moment : ℕ) → seen.drawn ≡ random → length random ≡ draws manager.wraps
+    (m : EncMaterialsValue) (moment : ℕ) → seen.drawn ≡ random → length random ≡ drawn_count manager.wraps
     → manager.gives (wish_of asked) moment (drawn_rest random) m → seen.served ≡ Some m.served
-    → IsGiven manager asked seen m
+    → JobIsGiven manager asked seen m
 is_given manager asked seen random m moment drawn count gives served = record {
   count = ap (λ (d : List ℕ). length d) drawn ∙ count;
   moment = moment;
@@ -112,13 +112,13 @@ no_memory : (error : DeskError) (end : JobEnd) → error ≡ errors.Memory → E
 no_memory error end same ends_for = let no : Ok end ≡ Err alloc_error = named error errors.Memory end same ends_for in absurd cc
 
 -- a message begins with what was given, since its header can be made
-given_begins : (random : List ℕ) (wraps : ℕ) (m : EncMaterialsValue) → length random ≡ draws wraps → IsWritable m → start_refusal m None (id_in random) ≡ None
+given_begins : (random : List ℕ) (wraps : ℕ) (m : EncMaterialsValue) → length random ≡ drawn_count wraps → MaterialsAreWritable m → start_refusal m None (drawn_id random) ≡ None
 given_begins random wraps m count writable =
-    few_begin m (id_in random) None (omega (arith, length-take 32 random, count)) writable.context writable.each writable.few tt
+    few_begin m (drawn_id random) None (omega (arith, length-take 32 random, count)) writable.context writable.each writable.few tt
 
 -- so that no error comes of them
 none_began : (asked : SealAsked) (random : List ℕ) (m : EncMaterialsValue) (id : ℕ) (error : DeskError) (refusal : Option Refusal) → refusal ≡ None
-    → Err error ≡ (begun (request_of asked) random m id refusal).answer → ⊥
+    → Err error ≡ (begun_turn (job_request asked) random m id refusal).answer → ⊥
 none_began asked random m id error None begins is = absurd cc
 none_began asked random m id error (Some refusal) begins is = absurd cc
 
@@ -133,11 +133,11 @@ none_given manager asked seen random reply error answered none gives_none = reco
 
 -- whatever error the desk answered
 pub seals_none : (manager : Saying) (asked : SealAsked) (seen : Seen) (random : List ℕ) (reply : Reply) (short : Bool) (id : ℕ) (error : DeskError) (end : JobEnd)
-    → IsAnswered manager asked seen random reply → Err error ≡ (seal_opened (request_of asked) random reply short id).answer → EndsFor error (Ok end) → SealsSo manager asked seen end
+    → IsAnswered manager asked seen random reply → Err error ≡ (seal_opened (job_request asked) random reply short id).answer → EndsFor error (Ok end) → SealsSo manager asked seen end
 seals_none manager asked seen random NoReply short id error end answered is ends_for = absurd (no_memory error end (cc) ends_for)
 seals_none manager asked seen random (Gives m) true id error end answered is ends_for = absurd (no_memory error end (cc) ends_for)
 seals_none manager asked seen random (Gives m) false id error end answered is ends_for =
-    absurd (none_began asked random m id error (start_refusal m None (id_in random)) (given_begins random manager.wraps m answered.count answered.says.1) is)
+    absurd (none_began asked random m id error (start_refusal m None (drawn_id random)) (given_begins random manager.wraps m answered.count answered.says.1) is)
 seals_none manager asked seen random (Refuses refusal) short id error end answered is ends_for =
     let same : error ≡ errors.Refusal refusal = cc in
     let ended : Ok end ≡ Ok (ends.Refusal refusal) = named error (errors.Refusal refusal) end same ends_for in
@@ -156,35 +156,35 @@ seals_none manager asked seen random Fails short id error end answered is ends_f
 pub record HasBegun (asked : SealAsked) (random : List ℕ) (reply : Reply) (short : Bool) (id session : ℕ) : Type 0 where
   pub materials : EncMaterialsValue
   pub gives : reply ≡ Gives materials
-  pub begins : start_refusal materials None (id_in random) ≡ None
+  pub begins : start_refusal materials None (drawn_id random) ≡ None
   pub same : session ≡ id
-  pub left : (seal_opened (request_of asked) random reply short id).left ≡ Some (Sealing (seal.new_session materials asked.declared asked.frame (id_in random)))
+  pub left : (seal_opened (job_request asked) random reply short id).left ≡ Some (Sealing (seal.new_sealing_session materials asked.declared asked.frame (drawn_id random)))
 
-begun_with : (asked : SealAsked) (random : List ℕ) (m : EncMaterialsValue) (id session : ℕ) (refusal : Option Refusal) → start_refusal m None (id_in random) ≡ refusal
-    → Ok session ≡ (begun (request_of asked) random m id refusal).answer → HasBegun asked random (Gives m) false id session
+begun_with : (asked : SealAsked) (random : List ℕ) (m : EncMaterialsValue) (id session : ℕ) (refusal : Option Refusal) → start_refusal m None (drawn_id random) ≡ refusal
+    → Ok session ≡ (begun_turn (job_request asked) random m id refusal).answer → HasBegun asked random (Gives m) false id session
 begun_with asked random m id session None starts is = record {
   materials = m;
   gives = refl;
   begins = starts;
   same = cc;
-  left = ap (λ (r : Option Refusal). (begun (request_of asked) random m id r).left) starts;
+  left = ap (λ (r : Option Refusal). (begun_turn (job_request asked) random m id r).left) starts;
 }
 begun_with asked random m id session (Some refusal) starts is = absurd cc
 
-pub has_begun : (asked : SealAsked) (random : List ℕ) (reply : Reply) (short : Bool) (id session : ℕ) → Ok session ≡ (seal_opened (request_of asked) random reply short id).answer
+pub has_begun : (asked : SealAsked) (random : List ℕ) (reply : Reply) (short : Bool) (id session : ℕ) → Ok session ≡ (seal_opened (job_request asked) random reply short id).answer
     → HasBegun asked random reply short id session
 has_begun asked random NoReply short id session is = absurd cc
 has_begun asked random (Gives m) true id session is = absurd cc
-has_begun asked random (Gives m) false id session is = begun_with asked random m id session (start_refusal m None (id_in random)) refl is
+has_begun asked random (Gives m) false id session is = begun_with asked random m id session (start_refusal m None (drawn_id random)) refl is
 has_begun asked random (Refuses refusal) short id session is = absurd cc
 has_begun asked random Fails short id session is = absurd cc
 
 -- it is live
 pub sealing_live : (v : DeskValue) (asked : SealAsked) (random : List ℕ) (reply : Reply) (short : Bool) (session : ℕ) (b : HasBegun asked random reply short (v.last + 1) session)
-    → update nat_eq v.live (v.last + 1) (seal_opened (request_of asked) random reply short (v.last + 1)).left session
-    ≡ Some (Sealing (seal.new_session b.materials asked.declared asked.frame (id_in random)))
+    → update nat_eq v.live (v.last + 1) (seal_opened (job_request asked) random reply short (v.last + 1)).left session
+    ≡ Some (Sealing (seal.new_sealing_session b.materials asked.declared asked.frame (drawn_id random)))
 sealing_live v asked random reply short session b =
-    let left : Option SessionValue = (seal_opened (request_of asked) random reply short (v.last + 1)).left in
+    let left : Option SessionValue = (seal_opened (job_request asked) random reply short (v.last + 1)).left in
     ap (update nat_eq v.live (v.last + 1) left) b.same ∙ update_here v.live (v.last + 1) left ∙ b.left
 
 -- ---- what the desk did
@@ -193,22 +193,22 @@ sealing_live v asked random reply short session b =
 pub record Opened {M : Type 0} (manager : Saying) (asked : SealAsked) (now : ℕ) (random : List ℕ) (v : DeskValue) (result : Result ℕ DeskError) (served : Option Served) (desk : Desk M) : Type 0 where
   pub reply : Reply
   pub short : Bool
-  pub replies : IsReply manager (request_of asked) now random short reply
-  pub answer : result ≡ (seal_opened (request_of asked) random reply short (v.last + 1)).answer
+  pub replies : IsReply manager (job_request asked) now random short reply
+  pub answer : result ≡ (seal_opened (job_request asked) random reply short (v.last + 1)).answer
   pub serves : served ≡ served_by reply
   pub stands : Stands desk
-      (after_turn (drawn v) (v.last + 1) (lines_of (v.last + 1) Seal now asked.declared (served_by reply)) (seal_opened (request_of asked) random reply short (v.last + 1)))
+      (after_turn (drawn v) (v.last + 1) (lines_of (v.last + 1) Seal now asked.declared (served_by reply)) (seal_opened (job_request asked) random reply short (v.last + 1)))
 
 pub opened_so : {M : Type 0} (manager : Saying) (new : Desk M) (asked : SealAsked)
     (request : SealRequestValue) (now : ℕ) (random : List ℕ) (v : DeskValue)
     (result : Result ℕ DeskError) (served : Option Served) (lines : List JournalLine)
-    → request ≡ request_of asked → OpensSeal manager v request now random result new
+    → request ≡ job_request asked → OpensSeal manager v request now random result new
     → lines ≡ v.journal
     → served ≡ option_map (λ (line : JournalLine). line.served)
     (slice_get (journal_of new) (length lines))
     → Opened manager asked now random v result served new
 opened_so manager new asked request now random v result served lines same opens were is =
-    let o : OpensSeal manager v (request_of asked) now random result new =
+    let o : OpensSeal manager v (job_request asked) now random result new =
     subst (λ (r : SealRequestValue). OpensSeal manager v r now random result new) same opens in
     record {
       reply = o.reply;

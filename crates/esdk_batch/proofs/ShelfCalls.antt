@@ -23,7 +23,7 @@ use Rattle.esdk_batch.specs.FileEndLaws.{calls_more, calls_none}
 use Rattle.esdk_batch.specs.Placing.{IsPlaced, PutsInPlace, readers_of, unplaced_end, unplaced_line}
 use Rattle.esdk_batch.specs.Progress.{is_ended}
 use Rattle.esdk_batch.specs.Rounds.{FilesAreApart}
-use Rattle.esdk_batch.specs.ShelfCalls.{AreFinished, CallsAtMost, FinishesBy, FinishesNot, HasCalls, IsFinished, IsFinishedAtMost, IsFinishedSo, IsOfJob, IsOfJobs, IsOfTurn, IsOver, IsRead, IsWrite, JobsCall, TurnCalls, calls_about, is_about}
+use Rattle.esdk_batch.specs.ShelfCalls.{AreFinished, CallsAtMost, FinishesBy, FinishesNot, HasCalls, IsFinished, IsFinishedSo, IsOfJob, IsOfJobs, IsOfTurn, JobIsOver, IsReadOf, IsWrite, JobsCall, TurnCalls, calls_about, is_about}
 use Rattle.esdk_batch.specs.Turns.{HasKind}
 use Rattle.esdk_batch.proofs.Conclusion.{ended_at}
 use Rattle.esdk_batch.proofs.Places.{at_places}
@@ -45,9 +45,9 @@ calls_one P old new call is told later = record { made = call ∷ []; calls = to
 abbrev pub calls_weaker : (P Q : ShelfCall → Type 0) (old new : ShelfState) → ((call : ShelfCall) → P call → Q call) → HasCalls P old new → HasCalls Q old new
 calls_weaker P Q old new weaker has = record { made = has.made; calls = has.calls; all = All-weaker P Q weaker has.made has.all; later = has.later }
 
-pub told_read : {E : Type 0} (old new : ShelfState) (result : Result ℕ E) (name : List ℕ) (at : ℕ) (out : List ℕ) → old.faults ≤ new.faults → TellsRead old.calls new.calls result name at out → HasCalls (IsRead name) old new
-told_read old new (Ok n) name at out later tells = calls_one (IsRead name) old new _ refl tells later
-told_read old new (Err failed) name at out later tells = calls_still (IsRead name) old new tells later
+pub told_read : {E : Type 0} (old new : ShelfState) (result : Result ℕ E) (name : List ℕ) (at : ℕ) (out : List ℕ) → old.faults ≤ new.faults → TellsRead old.calls new.calls result name at out → HasCalls (IsReadOf name) old new
+told_read old new (Ok n) name at out later tells = calls_one (IsReadOf name) old new _ refl tells later
+told_read old new (Err failed) name at out later tells = calls_still (IsReadOf name) old new tells later
 
 pub told_call : {T E : Type 0} (P : ShelfCall → Type 0) (old new : ShelfState) (result : Result T E) (call : ShelfCall) → P call → old.faults ≤ new.faults → TellsCall old.calls new.calls result call → HasCalls P old new
 told_call P old new (Ok done) call is later tells = calls_one P old new call is tells later
@@ -68,17 +68,17 @@ told_append old new (Err failed) name bytes later tells = elim tells [
 write_named : (job : Job) (name : List ℕ) → name ≡ job.to → (call : ShelfCall) → IsWrite name call → IsOfTurn job call
 write_named job name is call write = inr (subst (λ (n : List ℕ). IsWrite n call) is write)
 
-read_named : (job : Job) (name : List ℕ) → name ≡ job.from → (call : ShelfCall) → IsRead name call → IsOfTurn job call
-read_named job name is call read = inl (subst (λ (n : List ℕ). IsRead n call) is read)
+read_named : (job : Job) (name : List ℕ) → name ≡ job.from → (call : ShelfCall) → IsReadOf name call → IsOfTurn job call
+read_named job name is call read = inl (subst (λ (n : List ℕ). IsReadOf n call) is read)
 
 pub writes_turn : (job : Job) (name : List ℕ) (old new : ShelfState) → name ≡ job.to → HasCalls (IsWrite name) old new → HasCalls (IsOfTurn job) old new
 writes_turn job name old new is has = calls_weaker (IsWrite name) (IsOfTurn job) old new (write_named job name is) has
 
-pub reads_turn : (job : Job) (name : List ℕ) (old new : ShelfState) → name ≡ job.from → HasCalls (IsRead name) old new → HasCalls (IsOfTurn job) old new
-reads_turn job name old new is has = calls_weaker (IsRead name) (IsOfTurn job) old new (read_named job name is) has
+pub reads_turn : (job : Job) (name : List ℕ) (old new : ShelfState) → name ≡ job.from → HasCalls (IsReadOf name) old new → HasCalls (IsOfTurn job) old new
+reads_turn job name old new is has = calls_weaker (IsReadOf name) (IsOfTurn job) old new (read_named job name is) has
 
 -- a piece was read, and something was put behind the file or nothing
-pub read_writes_turn : (job : Job) (from to : List ℕ) (old mid new : ShelfState) → from ≡ job.from → to ≡ job.to → HasCalls (IsRead from) old mid → HasCalls (IsWrite to) mid new → HasCalls (IsOfTurn job) old new
+pub read_writes_turn : (job : Job) (from to : List ℕ) (old mid new : ShelfState) → from ≡ job.from → to ≡ job.to → HasCalls (IsReadOf from) old mid → HasCalls (IsWrite to) mid new → HasCalls (IsOfTurn job) old new
 read_writes_turn job from to old mid new reads_from writes_to one two =
     calls_more (IsOfTurn job) old mid new (reads_turn job from old mid reads_from one) (writes_turn job to mid new writes_to two)
 
@@ -323,7 +323,7 @@ jobs_none jobs began progress waiting = record {
   so = λ k job one below. subst (λ (p : Progress). IsFinishedSo (get_or jobs k job) p [] began.faults began.faults) (sym (waiting k one below)) (All-nil (IsWrite (get_or jobs k job).to));
 }
 
-pub at_most : (job : Job) (one : Progress) (made : List ShelfCall) (before now : ℕ) → IsFinishedSo job one made before now → IsFinishedAtMost job made
+pub at_most : (job : Job) (one : Progress) (made : List ShelfCall) (before now : ℕ) → IsFinishedSo job one made before now → IsFinished job made ⊎ FinishesNot job.to made
 at_most job stages.Waiting made before now so = inr so
 at_most job (stages.Live live) made before now so = inr so
 at_most job (stages.Ended line) made before now so = elim so [ inl once ↦ inl once | inr none ↦ inr none.0 ]
@@ -343,15 +343,15 @@ each_zip R (x ∷ xs) (y ∷ ys) each at = (at zero x y (omega arith), each_zip 
 
 module _ (jobs : List Job) (began now : ShelfState) (progress : List Progress) (each : length progress ≡ length jobs) (all : JobsCall jobs began now progress) where
   over_at : (lines : List JobLine) → progress ≡ map stages.Ended lines → (k : ℕ) (job : Job) (line : JobLine) → k < length lines
-      → IsOver (get_or jobs k job) (get_or lines k line).end all.has.made began.faults now.faults
+      → JobIsOver (get_or jobs k job) (get_or lines k line).end all.has.made began.faults now.faults
   over_at lines ended k job line below =
       let under : k < length progress = omega (arith, below, ap length ended, length-map lines stages.Ended) in
       let named : get_or progress k (stages.Ended line) ≡ stages.Ended (get_or lines k line) = ap (λ (ps : List Progress). get_or ps k (stages.Ended line)) ended ∙ ended_at lines k line in
       subst (λ (p : Progress). IsFinishedSo (get_or jobs k job) p all.has.made began.faults now.faults) named (all.so k job (stages.Ended line) under)
 
-  over_all : (lines : List JobLine) → progress ≡ map stages.Ended lines → AllZip (λ job line. IsOver job line.end all.has.made began.faults now.faults) jobs lines
+  over_all : (lines : List JobLine) → progress ≡ map stages.Ended lines → AllZip (λ job line. JobIsOver job line.end all.has.made began.faults now.faults) jobs lines
   over_all lines ended =
-      each_zip (λ (job : Job) (line : JobLine). IsOver job line.end all.has.made began.faults now.faults) jobs lines
+      each_zip (λ (job : Job) (line : JobLine). JobIsOver job line.end all.has.made began.faults now.faults) jobs lines
       (omega (arith, each, ap length ended, length-map lines stages.Ended)) (over_at lines ended)
 
 -- the shelf was only told what is read before

@@ -11,7 +11,7 @@ use Rattle.esdk_batch.specs.declared.progress.Progress.{Progress}
 use Rattle.esdk_batch.specs.declared.progress.Progress.TheVariants as stages
 use Rattle.keyring_trait.specs.Saying.{Saying}
 use Rattle.esdk_batch.specs.Turns.{AddsLines}
-use Rattle.esdk_batch.specs.Underway.{FurtherTurn, HasSession, IsAt, TakesTurn}
+use Rattle.esdk_batch.specs.Underway.{FurtherTurn, JobHasSession, IsAt, TakesTurn}
 use Rattle.esdk_batch.proofs.Places.{drew_none}
 use Rattle.esdk_batch.proofs.Took.{keeps_all}
 
@@ -41,7 +41,7 @@ same_files : (files : Option Files) (now left : Files) → files ≡ Some now �
 same_files files now left is later = cc
 
 -- no turn
-pub none_taken : (manager : Saying) (job : Job) (progress : Progress) (v : DeskValue) (files : Option Files) (entropy : EntropyState) → HasSession v.live progress
+pub none_taken : (manager : Saying) (job : Job) (progress : Progress) (v : DeskValue) (files : Option Files) (entropy : EntropyState) → JobHasSession v.live progress
     → TakesTurn manager job progress progress v v files files entropy entropy
 none_taken manager job progress v files entropy has = record {
   more = [];

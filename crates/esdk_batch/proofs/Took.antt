@@ -7,8 +7,8 @@ use Rattle.std.specs.Option.{option_map}
 use Rattle.std.specs.FinMap.{get}
 use Rattle.std.proofs.lemmas.List.{length-take-le, take-append-le, take_min, length-take, take_all}
 use Rattle.esdk_base.specs.Shelf.{Files, Holds, file_of, is_missing}
-use Rattle.esdk_batch.specs.Files.{Gains, KeepsOthers, ReadsPiece}
-use Rattle.esdk_batch.specs.SealStory.{held}
+use Rattle.esdk_batch.specs.Files.{FileGains, KeepsOthers, ReadsPiece}
+use Rattle.esdk_batch.specs.SealStory.{held_or_none}
 use Rattle.esdk_batch.specs.Underway.{Took}
 
 -- ---- what is read
@@ -36,15 +36,15 @@ took_piece files now name buffer taken at count from is same reads took =
     let there = is_there files now name is reads.there in
     let from_is : from ≡ Some there.0 = sym same ∙ there.1 in
     let holds : Holds files name there.0 = ap (λ (o : Option Files). file_of o name) is ∙ there.1 in
-    let next : drop at (held from) ≡ take count buffer ++ drop (at + count) (held from) =
-    subst (λ (t : List ℕ). drop at t ≡ take count buffer ++ drop (at + count) t) (sym (ap held from_is)) (reads.bytes there.0 holds) in
+    let next : drop at (held_or_none from) ≡ take count buffer ++ drop (at + count) (held_or_none from) =
+    subst (λ (t : List ℕ). drop at t ≡ take count buffer ++ drop (at + count) t) (sym (ap held_or_none from_is)) (reads.bytes there.0 holds) in
     record {
       text = there.0;
       there = from_is;
       took = record {
         count = omega (arith, length-append taken (take count buffer), piece_long count buffer reads.fits, took.count);
         most = reads.most;
-        front = took.front ∙ ap (λ (l : List ℕ). taken ++ l) next ∙ sym (append_assoc taken (take count buffer) (drop (at + count) (held from)));
+        front = took.front ∙ ap (λ (l : List ℕ). taken ++ l) next ∙ sym (append_assoc taken (take count buffer) (drop (at + count) (held_or_none from)));
       };
     }
 
@@ -55,13 +55,13 @@ took_all files now name buffer taken at count from is same reads none took =
     let there = is_there files now name is reads.there in
     let from_is : from ≡ Some there.0 = sym same ∙ there.1 in
     let holds : Holds files name there.0 = ap (λ (o : Option Files). file_of o name) is ∙ there.1 in
-    let end : drop at (held from) ≡ [] = subst (λ (t : List ℕ). drop at t ≡ []) (sym (ap held from_is)) (reads.end there.0 holds none) in
-    from_is ∙ ap (λ (t : List ℕ). Some t) (sym (ap held from_is) ∙ took.front ∙ ap (λ (l : List ℕ). taken ++ l) end ∙ append-nil taken)
+    let end : drop at (held_or_none from) ≡ [] = subst (λ (t : List ℕ). drop at t ≡ []) (sym (ap held_or_none from_is)) (reads.end there.0 holds none) in
+    from_is ∙ ap (λ (t : List ℕ). Some t) (sym (ap held_or_none from_is) ∙ took.front ∙ ap (λ (l : List ℕ). taken ++ l) end ∙ append-nil taken)
 
 -- ---- what is written
 
 -- behind what the file held stands what was appended
-pub gains_behind : (files after : Option Files) (now left : Files) (to bytes before : List ℕ) → files ≡ Some now → after ≡ Some left → Gains files after to bytes
+pub gains_behind : (files after : Option Files) (now left : Files) (to bytes before : List ℕ) → files ≡ Some now → after ≡ Some left → FileGains files after to bytes
     → file_of (Some now) to ≡ Some before → file_of (Some left) to ≡ Some (before ++ bytes)
 gains_behind files after now left to bytes before is later gains holds =
     sym (ap (λ (o : Option Files). file_of o to) later) ∙ gains.this ∙ ap (λ (o : Option Files). option_map (λ (h : List ℕ). h ++ bytes) (file_of o to)) is

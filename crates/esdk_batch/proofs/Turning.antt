@@ -12,7 +12,7 @@ use Rattle.esdk_batch.specs.declared.progress.Progress.{Progress}
 use Rattle.esdk_batch.specs.declared.progress.Progress.TheVariants as stages
 use Rattle.esdk_batch.specs.Batch.{WorksSo}
 use Rattle.keyring_trait.specs.Saying.{Saying}
-use Rattle.esdk_batch.specs.Underway.{HasSession, IsAt, IsLive, LacksSession}
+use Rattle.esdk_batch.specs.Underway.{JobHasSession, IsAt, JobIsLive, LacksSession}
 use Rattle.esdk_batch.specs.Turns.{DrawsNumber, Knows}
 use Rattle.esdk_batch.specs.Rounds.{HasOwn, HaveBegun, HaveSessions, has_begun}
 use Rattle.esdk_batch.proofs.Places.{at_places, front_at, within_old}
@@ -51,7 +51,7 @@ IsDrawn last stages.Waiting = Unit {0}
 IsDrawn last (stages.Live now) = now.session ≤ last
 IsDrawn last (stages.Ended line) = Unit {0}
 
-pub session_drawn : (live : ℕ → Option SessionValue) (last : ℕ) (one : Progress) → ((id : ℕ) → last < id → live id ≡ None) → HasSession live one → IsDrawn last one
+pub session_drawn : (live : ℕ → Option SessionValue) (last : ℕ) (one : Progress) → ((id : ℕ) → last < id → live id ≡ None) → JobHasSession live one → IsDrawn last one
 session_drawn live last stages.Waiting undrawn has = tt
 session_drawn live last (stages.Live now) undrawn has = is_drawn live last now.session has.0 undrawn has.1
 session_drawn live last (stages.Ended line) undrawn has = tt
@@ -63,7 +63,7 @@ session_kept live left last old stages.Waiting kept drawn own = tt
 session_kept live left last old (stages.Live now) kept drawn own = kept now.session own drawn
 session_kept live left last old (stages.Ended line) kept drawn own = tt
 
-pub has_kept : (live left : ℕ → Option SessionValue) (one : Progress) → KeepsSession one live left → HasSession live one → HasSession left one
+pub has_kept : (live left : ℕ → Option SessionValue) (one : Progress) → KeepsSession one live left → JobHasSession live one → JobHasSession left one
 has_kept live left stages.Waiting kept has = tt
 has_kept live left (stages.Live now) kept has = (has.0, kept ∙ has.1, has.2)
 has_kept live left (stages.Ended line) kept has = tt
@@ -79,8 +79,8 @@ pub stays_at : (manager : Saying) (job : Job) (before now later : Files) (drawn 
     → file_of (Some later) job.to ≡ file_of (Some now) job.to → KeepsSession one live left → IsAt manager job before now drawn live one → IsAt manager job before later drawn left one
 stays_at manager job before now later drawn live left stages.Waiting same kept at = (at.0, same ∙ at.1)
 stays_at manager job before now later drawn live left (stages.Live l) same kept at =
-    subst (λ to. IsLive manager job.work (file_of (Some before) job.from) to drawn l (left l.session)) (sym same)
-    (subst (λ session. IsLive manager job.work (file_of (Some before) job.from) (file_of (Some now) job.to) drawn l session) (sym kept) at)
+    subst (λ to. JobIsLive manager job.work (file_of (Some before) job.from) to drawn l (left l.session)) (sym same)
+    (subst (λ session. JobIsLive manager job.work (file_of (Some before) job.from) (file_of (Some now) job.to) drawn l session) (sym kept) at)
 stays_at manager job before now later drawn live left (stages.Ended line) same kept at = (
   at.0,
   subst (λ to. WorksSo manager job.work (record { from = file_of (Some before) job.from; before = file_of (Some before) job.to; to = to; drawn = drawn; served = line.served }) line.end) (sym same) at.1,
@@ -122,7 +122,7 @@ pub record Turned (jobs : List Job) (progress : List Progress) (i : ℕ) (job : 
   pub undrawn : (id : ℕ) → last < id → live id ≡ None
   pub numbers : DrawsNumber old new last next
   pub sessions : (session : ℕ) → LacksSession session old → session ≤ last → left session ≡ live session
-  pub has : HasSession left new
+  pub has : JobHasSession left new
   pub knows : Knows job.work new left
 
 module _ (jobs : List Job) (progress : List Progress) (i : ℕ) (job : Job) (old new : Progress) (last next : ℕ) (live left : ℕ → Option SessionValue)
@@ -173,7 +173,7 @@ module _ (jobs : List Job) (progress : List Progress) (i : ℕ) (job : Job) (old
 
   pub sessions_after : HaveSessions jobs (set progress i new) left
   sessions_after = record {
-    sessions = at_places (λ k one. HasSession left one) progress i new t.within t.has
+    sessions = at_places (λ k one. JobHasSession left one) progress i new t.within t.has
         (λ k d apart below. has_kept live left (get_or progress k d) (kept_at k d apart below) (have.sessions k d below));
     knows = λ k job' d below. at_places (λ k one. Knows (get_or jobs k job').work one left) progress i new t.within
         (subst (λ j. Knows j.work new left) (get_or_read jobs i job (omega (arith, t.within, t.each)) t.is job') t.knows)

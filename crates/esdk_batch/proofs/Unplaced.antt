@@ -2,13 +2,13 @@
 use Rattle.std.proofs.Common.{◌≡◌, ◌≤◌, ◌<◌, ◌∙◌, ℕ, Bool, true, false, List, ◌++◌, length, take, refl, sym, ap, subst, inl, inr, arith}
 use Rattle.std.specs.Prelude.{Option, Some, if◌then◌else◌}
 use Rattle.std.proofs.lemmas.List.{take_all}
+use Rattle.header_codec.specs.Header.{no_limits}
 use Rattle.esdk_fields.specs.declared.refusals.Outside.TheVariants as outsides
 use Rattle.esdk_fields.specs.Counts.{Rose, RoseBy}
 use Rattle.esdk_base.specs.Shelf.{Files, is_missing}
 use Rattle.esdk_base.specs.Streams.{EntropyState, ShelfState}
 use Rattle.context_codec.specs.Context.{KeyValue}
-use Rattle.stream_seal.specs.Start.{message_of}
-use Rattle.esdk_encrypt.specs.Encrypt.{drawn_id}
+use Rattle.stream_seal.specs.Start.{message_of, drawn_id}
 use Rattle.message_format.specs.Judgement.{content}
 use Rattle.desk_core.specs.Desk.{DeskValue}
 use Rattle.job_file.specs.declared.job.Job.{Job}
@@ -23,11 +23,11 @@ use Rattle.esdk_batch.specs.Batch.{WorksSo, seen_of}
 use Rattle.esdk_batch.specs.Failures.{HasFile, Tally, TurnCounts, entropy_fails, fails_by, keyring_fails, shelf_fails_of, tally_of}
 use Rattle.esdk_batch.specs.Files.{KeepsOthers}
 use Rattle.keyring_trait.specs.Saying.{Saying}
-use Rattle.esdk_batch.specs.Answering.{HasAnswer, no_limits}
-use Rattle.esdk_batch.specs.OpenStory.{OpensSo, OpensWhole, judged_under}
+use Rattle.esdk_batch.specs.Answering.{HasAnswer}
+use Rattle.esdk_batch.specs.OpenStory.{OpensSo, JobOpensWhole, judged_under}
 use Rattle.esdk_batch.specs.Placing.{IsPlaced, PutsInPlace, unplaced_end, unplaced_line}
 use Rattle.esdk_batch.specs.Progress.{is_ended, turns_left}
-use Rattle.esdk_batch.specs.SealStory.{SealAsked, SealsSo, SealsWhole, Seen, held, most_sealed, sealed_text}
+use Rattle.esdk_batch.specs.SealStory.{SealAsked, SealsSo, SealsWhole, Seen, held_or_none, most_sealed, sealed_text}
 use Rattle.esdk_batch.specs.Turns.{AddsLines, DrawsNumber, HasKind}
 use Rattle.esdk_batch.specs.Underway.{TakesTurn}
 
@@ -36,7 +36,7 @@ use Rattle.esdk_batch.specs.Underway.{TakesTurn}
 -- a whole message is a front of itself
 seals_unplaced : (manager : Saying) (asked : SealAsked) (seen : Seen) → SealsWhole manager asked seen → SealsSo manager asked seen (ends.Outside outsides.ShelfFault)
 seals_unplaced manager asked seen whole =
-    let text : sealed_text asked seen ≡ whole.text = ap (λ (o : Option (List ℕ)). take (most_sealed asked) (held o)) whole.from ∙ take_all (most_sealed asked) whole.text whole.short in
+    let text : sealed_text asked seen ≡ whole.text = ap (λ (o : Option (List ℕ)). take (most_sealed asked) (held_or_none o)) whole.from ∙ take_all (most_sealed asked) whole.text whole.short in
     let message : List ℕ = message_of whole.materials asked.frame (drawn_id seen.drawn) whole.text in
     record {
       materials = whole.materials;
@@ -52,9 +52,9 @@ seals_unplaced manager asked seen whole =
     }
 
 -- the whole content is a front of itself
-opens_unplaced : (manager : Saying) (given : List KeyValue) (seen : Seen) → OpensWhole manager given seen → OpensSo manager given seen (ends.Outside outsides.ShelfFault)
+opens_unplaced : (manager : Saying) (given : List KeyValue) (seen : Seen) → JobOpensWhole manager given seen → OpensSo manager given seen (ends.Outside outsides.ShelfFault)
 opens_unplaced manager given seen whole =
-    let from : held seen.from ≡ whole.bytes = ap held whole.opens.from in
+    let from : held_or_none seen.from ≡ whole.bytes = ap held_or_none whole.opens.from in
     let released : List ℕ = content (judged_under whole.answer whole.bytes) in
     inr (inr (record {
       answer = whole.answer;

@@ -15,7 +15,7 @@ use Rattle.job_file.specs.declared.job.Job.{Job}
 use Rattle.esdk_batch.specs.declared.progress.Progress.{Progress}
 use Rattle.esdk_batch.specs.declared.progress.Progress.TheVariants as stages
 use Rattle.esdk_batch.specs.FileEndLaws.{gained_nothing, gained_there}
-use Rattle.esdk_batch.specs.Files.{Empties, Gains, Holding, Makes, MakesFile, Puts, ReadsPiece}
+use Rattle.esdk_batch.specs.Files.{Empties, FileGains, Holding, Makes, MakesFile, Puts, ReadsPiece}
 use Rattle.esdk_batch.specs.Placing.{readers_of}
 use Rattle.esdk_batch.specs.ShelfCalls.{FinishesBy}
 use Rattle.esdk_batch.specs.Watching.{IsFrom, Watch, agrees, as_shown, as_told, behind_call, behind_calls, behind_read, files_by}
@@ -80,10 +80,10 @@ makes_seen by old new name result from made tells = makes (files_by by old) (fil
 
 -- so many of the bytes were appended, as the calls show
 appended_seen : (since : ℕ) (before : Files) (old new : ShelfState) (name bytes : List ℕ) → since ≤ length old.calls → new.calls ≡ old.calls ++ appends name bytes ∷ []
-    → Gains (behind_calls (Some before) (drop since old.calls)) (behind_calls (Some before) (drop since new.calls)) name bytes
+    → FileGains (behind_calls (Some before) (drop since old.calls)) (behind_calls (Some before) (drop since new.calls)) name bytes
 appended_seen since before old new name bytes from told =
     let held : Option Files = behind_calls (Some before) (drop since old.calls) in
-    subst (λ (files : Option Files). Gains held files name bytes)
+    subst (λ (files : Option Files). FileGains held files name bytes)
     (sym (shown_one since before old new (appends name bytes) from told ∙ some_map (λ files. appended files name bytes) held)) (gained held name bytes)
 
 pub puts_seen : {T E : Type 0} (by : Watch) (old new : ShelfState) (name bytes : List ℕ) (result : Result T E) → IsFrom by old → AppendsTo old.files new.files result name bytes
@@ -93,12 +93,12 @@ puts_seen (as_shown since before) old new name bytes (Ok done) from put tells = 
 puts_seen (as_shown since before) old new name bytes (Err failed) from put tells = elim tells [
   | inl same ↦
       let held : Option Files = behind_calls (Some before) (drop since old.calls) in
-      (0, subst (λ (files : Option Files). Gains held files name []) (sym (ap (λ (calls : List ShelfCall). behind_calls (Some before) (drop since calls)) same)) (gained_nothing held name))
+      (0, subst (λ (files : Option Files). FileGains held files name []) (sym (ap (λ (calls : List ShelfCall). behind_calls (Some before) (drop since calls)) same)) (gained_nothing held name))
   | inr told ↦ (told.0, appended_seen since before old new name (take told.0 bytes) from told.1)
 ]
 
 -- a file that was made holds what was put behind it
-put_behind : (first mid last : Option Files) (name bytes : List ℕ) → Empties first mid name → Gains mid last name bytes → Holding first last name bytes
+put_behind : (first mid last : Option Files) (name bytes : List ℕ) → Empties first mid name → FileGains mid last name bytes → Holding first last name bytes
 put_behind first mid last name bytes empties gains = record {
   keeps = record {
     tells = gains.keeps.tells ∙ empties.keeps.tells;

@@ -17,10 +17,10 @@ use Rattle.esdk_batch.specs.Batch.{OnlyWritten}
 use Rattle.esdk_batch.specs.Files.{KeepsOthers}
 use Rattle.esdk_batch.specs.Managing.{ManagerWent, SaysWithin}
 use Rattle.esdk_batch.specs.Progress.{IsFirstRunning, all_turns_left, is_ended, turns_left}
-use Rattle.esdk_batch.specs.Underway.{HasSession, TakesTurn}
+use Rattle.esdk_batch.specs.Underway.{JobHasSession, TakesTurn}
 use Rattle.esdk_batch.specs.Watching.{IsFrom, Watch, as_told, files_by}
 use Rattle.esdk_batch.specs.Turns.{AddsLines, DrawsBytes, DrawsNumber, HasKind, Knows}
-use Rattle.esdk_batch.specs.Rounds.{FilesAreApart, AreReady, Beginning, HaveBegun, HaveSessions, IsOpened, Stand, all_waits, has_begun}
+use Rattle.esdk_batch.specs.Rounds.{FilesAreApart, AreReady, Beginning, HaveBegun, HaveSessions, RoundIsBegun, Stand, all_waits, has_begun}
 use Rattle.esdk_batch.proofs.Managers.{admits_between, desk_none, desk_on, said, says_earlier, says_later}
 use Rattle.esdk_batch.proofs.Places.{front_at, front_from, front_set}
 use Rattle.esdk_batch.proofs.SameDesk.{adds_too}
@@ -44,7 +44,7 @@ turns_running (stages.Ended line) running = absurd cc
 
 -- What a turn of a job ensures.
 pub record TurnOf {M : Type 0} (state : M → ManagerNow) (job : Job) (old new : Progress) (before desk : Desk M) (files held : ShelfState) (entropy spent : EntropyState) : Type 0 where
-  pub turn : (by : Watch) (start last : M) (v : DeskValue) → IsFrom by files → SaysWithin state start last before desk → Stands before v → HasSession v.live old
+  pub turn : (by : Watch) (start last : M) (v : DeskValue) → IsFrom by files → SaysWithin state start last before desk → Stands before v → JobHasSession v.live old
       → (w : DeskValue) × Stands desk w × TakesTurn (said state start last) job old new v w (files_by by files) (files_by by held) entropy spent
   pub numbers : DrawsNumber old new (last_of before) (last_of desk)
   pub bytes : DrawsBytes old (last_of before) (last_of desk) entropy spent
@@ -83,7 +83,7 @@ module _ {M : Type 0} (state : M → ManagerNow) (jobs : List Job) (progress : L
 
   after : (by : Watch) (start last : M) (v : DeskValue) → IsFrom by files → SaysWithin state start last before desk → Stands before v → HaveSessions jobs progress v.live → After by start last v
   after by start last v from admits stands have =
-      let had : HasSession v.live old = subst (HasSession v.live) (sym was) (have.sessions i old within) in
+      let had : JobHasSession v.live old = subst (JobHasSession v.live) (sym was) (have.sessions i old within) in
       let knew : Knows job.work old v.live = subst (λ (j : Job). Knows j.work old v.live) (sym is) (subst (λ one. Knows (get_or jobs i job).work one v.live) (sym was) (have.knows i job old within)) in
       let (w, then, turn) = t.turn by start last v from admits stands had in
       let (u, other, adds) = t.lines v stands knew in
@@ -139,7 +139,7 @@ pub record RoundOn {M : Type 0} (state : M → ManagerNow) (jobs : List Job) (wi
       → (w : DeskValue) × Stands desk w × Stand (said state start last) jobs width began (files_by by held) spent w progress
 
 pub round_starts : {M : Type 0} (state : M → ManagerNow) (jobs : List Job) (width first : ℕ) (desk : Desk M) (progress : List Progress)
-    (files : ShelfState) (entropy : EntropyState) → length progress ≡ length jobs → IsFirstRunning progress (Some first) → AreReady desk jobs progress → IsOpened width progress → Went (state (manager_of desk)) (state (manager_of desk))
+    (files : ShelfState) (entropy : EntropyState) → length progress ≡ length jobs → IsFirstRunning progress (Some first) → AreReady desk jobs progress → RoundIsBegun width progress → Went (state (manager_of desk)) (state (manager_of desk))
     → RoundOn state jobs width first desk desk progress progress files files entropy entropy first 0
 round_starts state jobs width first desk progress files entropy each running ready opened still = record {
   each = each;
@@ -277,7 +277,7 @@ pub record RoundsOn {M : Type 0} (state : M → ManagerNow) (jobs : List Job) (w
   pub each : length progress ≡ length jobs
   pub room : last_of desk + all_waits progress ≤ last_of before + all_waits old
   pub ready : AreReady desk jobs progress
-  pub opened : IsOpened width progress
+  pub opened : RoundIsBegun width progress
   pub others : OnlyWritten jobs files.files held.files
   pub told : is_some held.files ≡ is_some files.files
   pub known : (by : Watch) → IsFrom by files → IsFrom by held
@@ -288,7 +288,7 @@ pub record RoundsOn {M : Type 0} (state : M → ManagerNow) (jobs : List Job) (w
       → (w : DeskValue) × Stands desk w × Stand (said state start last) jobs width began (files_by by held) spent w progress
 
 pub rounds_start : {M : Type 0} (state : M → ManagerNow) (jobs : List Job) (width : ℕ) (desk : Desk M) (progress : List Progress) (files : ShelfState) (entropy : EntropyState)
-    → length progress ≡ length jobs → AreReady desk jobs progress → IsOpened width progress → Went (state (manager_of desk)) (state (manager_of desk))
+    → length progress ≡ length jobs → AreReady desk jobs progress → RoundIsBegun width progress → Went (state (manager_of desk)) (state (manager_of desk))
     → RoundsOn state jobs width desk desk progress progress files files entropy entropy
 rounds_start state jobs width desk progress files entropy each ready opened still = record {
   each = each;

@@ -8,7 +8,7 @@ use Rattle.context_codec.specs.Context.{KeyValue}
 use Rattle.context_codec.specs.Parts.{holds}
 use Rattle.keyring_trait.specs.Requests.{EncRequestValue, required_absent}
 use Rattle.desk_core.specs.SealRequest.{SealRequestValue}
-use Rattle.esdk_batch.specs.Opening.{request_of}
+use Rattle.esdk_batch.specs.Opening.{job_request}
 use Rattle.esdk_batch.specs.SealStory.{SealAsked, wish_of}
 
 -- where all pass a test, none is found that doesn't
@@ -23,5 +23,5 @@ none_absent context keys all = ap (option_map RequiredAbsent) (find_none (holds 
 
 -- what is asked of the desk is what the job asks
 pub asks_as : (asked : SealAsked) (wish : EncRequestValue) (request : SealRequestValue) → request ≡ record { wish = wish; size = asked.frame; max_keys = None } → wish ≡ wish_of asked
-    → request ≡ request_of asked
+    → request ≡ job_request asked
 asks_as asked wish request is same = is ∙ ap (λ (w : EncRequestValue). record { wish = w; size = asked.frame; max_keys = None }) same

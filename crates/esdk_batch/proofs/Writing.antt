@@ -9,16 +9,16 @@ use Rattle.esdk_base.specs.declared.receiver.FeedError.{FeedError}
 use Rattle.esdk_base.specs.declared.receiver.FeedError.TheVariants as failures
 use Rattle.desk_core.specs.declared.errors.DeskError.{DeskError}
 use Rattle.esdk_batch.specs.declared.file_end.FileEnd.{FileEnd}
-use Rattle.esdk_batch.specs.FileEnd.{FileFails, FileTakes, file_fails, file_takes}
-use Rattle.esdk_batch.specs.Files.{Gains, KeepsOthers, Puts}
+use Rattle.esdk_batch.specs.FileEnd.{AppendFails, FileTakes, file_fails, file_takes}
+use Rattle.esdk_batch.specs.Files.{FileGains, KeepsOthers, Puts}
 use Rattle.esdk_batch.specs.ShelfCalls.{HasCalls, IsWrite}
 use Rattle.esdk_batch.specs.Watching.{IsFrom, Watch, as_told, files_by}
 
 -- What a receiver says of the file behind whose end it puts bytes: what it takes the file gains, and where it fails a front of that. The shelf is lent to it by this name still.
 pub record Writes {R E : Type 0} (takes : R → R → List ℕ → Type 0) (fails : R → R → List ℕ → E → Type 0) (before after : R) (to : List ℕ) (lent still : ℕ) (missing : Bool) (old new : ShelfState) : Type 0 where
-  pub took : (bytes : List ℕ) → takes before after bytes → Gains old.files new.files to bytes × (old.faults ≤ new.faults) × (still ≡ lent) × HasCalls (IsWrite to) old new
+  pub took : (bytes : List ℕ) → takes before after bytes → FileGains old.files new.files to bytes × (old.faults ≤ new.faults) × (still ≡ lent) × HasCalls (IsWrite to) old new
   pub failed : (bytes : List ℕ) (error : E) → fails before after bytes error
-      → (count : ℕ) × Gains old.files new.files to (take count bytes) × (old.faults ≤ new.faults) × (missing ≡ false → Rose old.faults new.faults) × (still ≡ lent) × HasCalls (IsWrite to) old new
+      → (count : ℕ) × FileGains old.files new.files to (take count bytes) × (old.faults ≤ new.faults) × (missing ≡ false → Rose old.faults new.faults) × (still ≡ lent) × HasCalls (IsWrite to) old new
   pub same : after ≡ before → (new ≡ old) × (still ≡ lent)
 
 -- the end of a file does
@@ -34,7 +34,7 @@ writes_file state before after = record {
 -- by what a call of it answers
 pub takes_so : {T E : Type 0} (lent : ℕ) (name : List ℕ) (old new : ShelfState) (bytes : List ℕ) (result : Result T E)
     → ((by : Watch) → IsFrom by old → Puts (files_by by old) (files_by by new) name bytes result) → HasCalls (IsWrite name) old new → (is_missing old.files name ≡ false → OnErr result (Rose old.faults new.faults))
-    → MatchResult result (λ _. FileTakes lent lent name name old new bytes) (λ _. FileFails lent lent name name old new bytes)
+    → MatchResult result (λ _. FileTakes lent lent name name old new bytes) (λ _. AppendFails lent lent name name old new bytes)
 takes_so lent name old new bytes (Ok done) puts calls rose = record { shelf = refl; file = refl; gains = puts; calls = calls }
 takes_so lent name old new bytes (Err error) puts calls rose = record { shelf = refl; file = refl; gains = puts; calls = calls; rose = rose }
 
@@ -58,10 +58,10 @@ writes_seen state by before after from = record {
 
 -- something was put behind the file; or, where the receiver failed, the shelf counted that
 abbrev pub Put : {T E : Type 0} → ℕ → ℕ → Bool → ShelfState → ShelfState → List ℕ → Result T (FeedError DeskError E) → Type 0
-Put lent still missing old new to (Ok done) = (bytes : List ℕ) × Gains old.files new.files to bytes × (old.faults ≤ new.faults) × (still ≡ lent) × HasCalls (IsWrite to) old new
-Put lent still missing old new to (Err (failures.Machine error)) = (bytes : List ℕ) × Gains old.files new.files to bytes × (old.faults ≤ new.faults) × (still ≡ lent) × HasCalls (IsWrite to) old new
+Put lent still missing old new to (Ok done) = (bytes : List ℕ) × FileGains old.files new.files to bytes × (old.faults ≤ new.faults) × (still ≡ lent) × HasCalls (IsWrite to) old new
+Put lent still missing old new to (Err (failures.Machine error)) = (bytes : List ℕ) × FileGains old.files new.files to bytes × (old.faults ≤ new.faults) × (still ≡ lent) × HasCalls (IsWrite to) old new
 Put lent still missing old new to (Err (failures.Receiver error)) =
-    (bytes : List ℕ) × Gains old.files new.files to bytes × (old.faults ≤ new.faults) × (missing ≡ false → Rose old.faults new.faults) × (still ≡ lent) × HasCalls (IsWrite to) old new
+    (bytes : List ℕ) × FileGains old.files new.files to bytes × (old.faults ≤ new.faults) × (missing ≡ false → Rose old.faults new.faults) × (still ≡ lent) × HasCalls (IsWrite to) old new
 
 -- every other file is as before
 pub put_keeps : {T E : Type 0} (lent still : ℕ) (missing : Bool) (old new : ShelfState) (to : List ℕ) (result : Result T (FeedError DeskError E)) → Put lent still missing old new to result → KeepsOthers old.files new.files to

@@ -1,7 +1,7 @@
 -- What a decrypt job has of the manager: its answer to the header of what the job reads, and how
 -- the materials were served. AWS Encryption SDK Specification, "Decrypt", "Get the decryption
 -- materials".
-use Rattle.std.specs.Prelude.{◌≡◌, ℕ, List, ⊤, false, Option, Some, None}
+use Rattle.std.specs.Prelude.{◌≡◌, ℕ, List, ⊤, Option, Some, None}
 use Rattle.context_codec.specs.Context.{KeyValue}
 use Rattle.header_codec.specs.declared.settings.Settings.{Settings}
 use Rattle.keyring_trait.specs.declared.served.Served.{Served}
@@ -10,10 +10,6 @@ use Rattle.keyring_trait.specs.Unlocking.{Unlocking, Refuses, Unlocks}
 use Rattle.stream_open.specs.Feeding as opens
 use Rattle.stream_open.specs.Session.{OpeningValue, answer_kept}
 use Rattle.esdk_decrypt.specs.Decrypt.{AnswersTo, FailsTo, answers_at}
-
--- a decrypt job's messages have no limits, and commit to their data key
-abbrev pub no_limits : Settings
-no_limits = record { max_keys = None; max_unit = None; uncommitted = false }
 
 -- what the manager may say where the materials that it finds are served so
 abbrev pub serving : Saying → Option Served → Saying
@@ -44,5 +40,5 @@ pub record HasFailed (manager : Saying) (settings : Settings) (given : List KeyV
 -- The session keeps such an answer to the header that is whole in these bytes.
 pub record KeepsServed (manager : Saying) (s : OpeningValue) (bytes : List ℕ) : Type 0 where
   pub moment : ℕ
-  pub keeps : opens.Keeps (serving manager s.served) moment s bytes
+  pub keeps : opens.KeepsItsAnswer (serving manager s.served) moment s bytes
   pub unserved : IsUnserved (answer_kept s.answer) s.served

@@ -1,6 +1,7 @@
 -- What a batch comes to: for each job, for the files, for the bytes drawn, and for the desk's
 -- journal.
-use Rattle.std.specs.Prelude.{◌≡◌, ◌≤◌, ◌+◌, ℕ, false, List, [], ◌∷◌, ◌++◌, length, map, zip, filter_map, All, Option, Some, None, option_map}
+use Rattle.std.specs.Prelude.{◌≡◌, ◌≤◌, ◌+◌, ℕ, false, List, [], ◌∷◌, ◌++◌, length, map, zip}
+use Rattle.std.specs.Prelude.{filter_map, All, Option, Some, None, option_map}
 use Rattle.std.specs.List.{concat}
 use Rattle.std.specs.List.Sorted.{IsPermutation}
 use Rattle.std.specs.Io.KnownBytes.{Consumes}
@@ -82,15 +83,15 @@ OnlyWritten jobs before after = (name : List ℕ) → is_written jobs name ≡ f
 
 -- What is known of an answer of the manager: what it was for, how it was served, and the declared
 -- length.
-pub record Answered : Type 0 where
+pub record ManagerAnswer : Type 0 where
   pub kind : Kind
   pub served : Served
   pub length : Option ℕ
 
-abbrev pub in_line : JournalLine → Answered
+abbrev pub in_line : JournalLine → ManagerAnswer
 in_line line = record { kind = line.kind; served = line.served; length = line.length }
 
-abbrev pub in_report : Job × JobLine → Option Answered
+abbrev pub in_report : Job × JobLine → Option ManagerAnswer
 in_report pair = option_map (λ served. record {
   kind = pair.1.kind;
   served = served;

@@ -1,5 +1,6 @@
 -- A piece that is fed to a session of the desk, the session's end, and how its job ends.
-use Rattle.std.specs.Prelude.{◌≡◌, ◌≢◌, ◌⊎◌, ◌≤◌, ℕ, List, [], ◌++◌, length, take, alloc_error, true, is_some, Option, Some, None, Result, Ok, Err}
+use Rattle.std.specs.Prelude.{◌≡◌, ◌≢◌, ◌⊎◌, ◌≤◌, ℕ, List, [], ◌++◌, length, take, alloc_error}
+use Rattle.std.specs.Prelude.{true, is_some, Option, Some, None, Result, Ok, Err}
 use Rattle.std.specs.declared.alloc.AllocError.{AllocError}
 use Rattle.esdk_fields.specs.declared.faults.Fault.{Fault}
 use Rattle.esdk_fields.specs.declared.refusals.Outside.TheVariants as outsides
@@ -26,7 +27,7 @@ use Rattle.desk_core.specs.Desk.{DeskValue, lines_of}
 use Rattle.batch_report.specs.declared.job_lines.JobEnd.{JobEnd}
 use Rattle.batch_report.specs.declared.job_lines.JobEnd.TheVariants as ends
 use Rattle.esdk_batch.specs.Answering.{HasAnswer, HasFailed, KeepsServed}
-use Rattle.esdk_batch.specs.Files.{Gains, KeepsOthers}
+use Rattle.esdk_batch.specs.Files.{FileGains, KeepsOthers}
 
 -- how a job ends whose session answers this error; want of memory ends the batch
 abbrev pub EndsFor : DeskError → Result JobEnd AllocError → Type 0
@@ -37,9 +38,9 @@ EndsFor errors.Memory result = result ≡ Err alloc_error
 EndsFor errors.NotLive result = ⊥
 
 -- the same of an error with which a session is fed into the end of a file, which may be the shelf's
-abbrev pub EndsBy : {E : Type 0} → FeedError DeskError E → Result JobEnd AllocError → Type 0
-EndsBy (failures.Machine error) result = EndsFor error result
-EndsBy (failures.Receiver error) result = result ≡ Ok (ends.Outside outsides.ShelfFault)
+abbrev pub JobEndsBy : {E : Type 0} → FeedError DeskError E → Result JobEnd AllocError → Type 0
+JobEndsBy (failures.Machine error) result = EndsFor error result
+JobEndsBy (failures.Receiver error) result = result ≡ Ok (ends.Outside outsides.ShelfFault)
 
 -- every other session is as before, no number is drawn, and the journal gained these lines
 pub record KeepsDesk (session : ℕ) (v w : DeskValue) (gained : List JournalLine) : Type 0 where
@@ -51,26 +52,26 @@ pub record KeepsDesk (session : ℕ) (v w : DeskValue) (gained : List JournalLin
 
 -- A piece was fed to a session that seals, and the file gained the frames that it gave; or no more
 -- could be taken, for this reason; or an append failed, behind a front of them.
-abbrev pub SealsPiece : SealingValue → List ℕ → Option SessionValue → List ℕ → Option Files
+abbrev pub JobSealsPiece : SealingValue → List ℕ → Option SessionValue → List ℕ → Option Files
     → Option Files → Option JobEnd → Type 0
-SealsPiece s piece left to files after None =
+JobSealsPiece s piece left to files after None =
     (left ≡ Some (Sealing (seals.fed s piece))) × (seals.feed_refusal s piece ≡ None)
-    × Gains files after to (seals.fed_out s piece)
-SealsPiece s piece left to files after (Some (ends.Refusal refusal)) =
+    × FileGains files after to (seals.fed_out s piece)
+JobSealsPiece s piece left to files after (Some (ends.Refusal refusal)) =
     (left ≡ None) × (seals.feed_refusal s piece ≡ Some refusal)
-    × Gains files after to (seals.fed_out s piece)
-SealsPiece s piece left to files after (Some (ends.Outside outsides.ShelfFault)) =
-    (left ≡ None) × ((n : ℕ) × Gains files after to (take n (seals.fed_out s piece)))
-SealsPiece s piece left to files after (Some end) = ⊥
+    × FileGains files after to (seals.fed_out s piece)
+JobSealsPiece s piece left to files after (Some (ends.Outside outsides.ShelfFault)) =
+    (left ≡ None) × ((n : ℕ) × FileGains files after to (take n (seals.fed_out s piece)))
+JobSealsPiece s piece left to files after (Some end) = ⊥
 
 -- A piece was fed to a session that opens: it goes on as this one, which keeps the manager's
 -- answer, and the file gained what was released.
-pub record OpensPiece (manager : Saying) (s : OpeningValue) (piece : List ℕ) (t : OpeningValue)
+pub record JobOpensPiece (manager : Saying) (s : OpeningValue) (piece : List ℕ) (t : OpeningValue)
     (to : List ℕ) (files after : Option Files) : Type 0 where
   pub released : List ℕ
-  pub feeds : opens.Feeds s piece t released
+  pub feeds : opens.FeedsToOpener s piece t released
   pub keeps : KeepsServed manager s s.taken → KeepsServed manager t t.taken
-  pub gains : Gains files after to released
+  pub gains : FileGains files after to released
 
 -- The bytes taken with a front of the piece are judged by an answer that the manager may give to
 -- their header, whose materials were served so. The file gained so many bytes of what that releases
@@ -83,10 +84,10 @@ pub record Judges (manager : Saying) (s : OpeningValue) (piece to : List ℕ)
       → HasAnswer manager s.settings s.given (s.taken ++ take used piece) served answer
   pub content : content (judged (s.taken ++ take used piece) s.settings answer)
       ≡ content (judged_now s) ++ released
-  pub gains : Gains files after to (take count released)
+  pub gains : FileGains files after to (take count released)
 
 -- They have this fault, and the file gained all that was released before it.
-pub record FindsFault (manager : Saying) (s : OpeningValue) (piece to : List ℕ)
+pub record JobFindsFault (manager : Saying) (s : OpeningValue) (piece to : List ℕ)
     (files after : Option Files) (served : Option Served) (fault : Fault) : Type 0 where
   pub answer : Unlocking
   pub used : ℕ
@@ -97,25 +98,27 @@ pub record FindsFault (manager : Saying) (s : OpeningValue) (piece to : List ℕ
       ≡ Some fault
 
 -- the same by how the job ended, if it did
-abbrev pub OpensSo : Saying → OpeningValue → List ℕ → Option SessionValue → List ℕ → Option Files
+abbrev pub PieceOpensSo : Saying → OpeningValue → List ℕ → Option SessionValue → List ℕ
+    → Option Files
     → Option Files → Option Served → Option JobEnd → Type 0
-OpensSo manager s piece left to files after served None =
-    (t : OpeningValue) × (left ≡ Some (Opening t)) × OpensPiece manager s piece t to files after
-OpensSo manager s piece left to files after served (Some (ends.Fault fault)) =
-    (left ≡ None) × FindsFault manager s piece to files after served fault
-OpensSo manager s piece left to files after served (Some (ends.Outside outsides.KeyringFault)) =
+PieceOpensSo manager s piece left to files after served None =
+    (t : OpeningValue) × (left ≡ Some (Opening t)) × JobOpensPiece manager s piece t to files after
+PieceOpensSo manager s piece left to files after served (Some (ends.Fault fault)) =
+    (left ≡ None) × JobFindsFault manager s piece to files after served fault
+PieceOpensSo manager s piece left to files after served
+    (Some (ends.Outside outsides.KeyringFault)) =
     (left ≡ None)
     × ((used : ℕ) × HasFailed manager s.settings s.given (s.taken ++ take used piece))
     × (content (judged_now s) ≡ []) × (after ≡ files)
-OpensSo manager s piece left to files after served (Some (ends.Outside outsides.ShelfFault)) =
+PieceOpensSo manager s piece left to files after served (Some (ends.Outside outsides.ShelfFault)) =
     (left ≡ None) × ((answer : Unlocking) × (used : ℕ) × (count : ℕ)
     × Judges manager s piece to files after served answer used count)
-OpensSo manager s piece left to files after served (Some end) = ⊥
+PieceOpensSo manager s piece left to files after served (Some end) = ⊥
 
 -- a session that seals still seals, and one that opens still opens
-abbrev pub GoesOnAs : SessionValue → Option SessionValue → Type 0
-GoesOnAs (Sealing s) left = (t : SealingValue) × (left ≡ Some (Sealing t))
-GoesOnAs (Opening s) left = (t : OpeningValue) × (left ≡ Some (Opening t))
+abbrev pub JobGoesOnAs : SessionValue → Option SessionValue → Type 0
+JobGoesOnAs (Sealing s) left = (t : SealingValue) × (left ≡ Some (Sealing t))
+JobGoesOnAs (Opening s) left = (t : OpeningValue) × (left ≡ Some (Opening t))
 
 -- How the materials of a session that opens were served, before these lines and after them: no line
 -- came, and they are served as before; or they weren't served, and the one line that came says how
@@ -144,19 +147,19 @@ ServesSo session (Opening s) gained left served end = Serves session s gained le
 abbrev pub FeedsSo : Saying → SessionValue → List ℕ → Option SessionValue → List ℕ → Option Files
     → Option Files → Option Served → Option JobEnd → Type 0
 FeedsSo manager (Sealing s) piece left to files after served end =
-    seals.IsFed s → SealsPiece s piece left to files after end
+    seals.SealerIsFed s → JobSealsPiece s piece left to files after end
 FeedsSo manager (Opening s) piece left to files after served end =
-    opens.GoesOn s → OpensSo manager s piece left to files after served end
+    opens.GoesOn s → PieceOpensSo manager s piece left to files after served end
 
 -- The journal gained lines; an opener's materials are served so behind it.
-pub record FeedsPiece (manager : Saying) (session : ℕ) (s : SessionValue) (piece : List ℕ)
+pub record FeedsJobPiece (manager : Saying) (session : ℕ) (s : SessionValue) (piece : List ℕ)
     (v w : DeskValue) (to : List ℕ) (files after : Option Files) (end : Option JobEnd)
     : Type 0 where
   pub gained : List JournalLine
   pub served : Option Served
   pub desk : KeepsDesk session v w gained
   pub others : KeepsOthers files after to
-  pub lives : end ≡ None → GoesOnAs s (w.live session)
+  pub lives : end ≡ None → JobGoesOnAs s (w.live session)
   pub over : is_some end ≡ true → w.live session ≡ None
   pub serves : ServesSo session s gained (w.live session) served end
   pub feeds : FeedsSo manager s piece (w.live session) to files after served end
@@ -166,12 +169,13 @@ pub record FeedsPiece (manager : Saying) (session : ℕ) (s : SessionValue) (pie
 -- The file gained the final frame, or what was taken is a whole message; or it isn't, or an append
 -- failed.
 abbrev pub FinishesSo : SessionValue → List ℕ → Option Files → Option Files → JobEnd → Type 0
-FinishesSo (Sealing s) to files after ends.Done = Gains files after to (seal.finished s).out
+FinishesSo (Sealing s) to files after ends.Done =
+    FileGains files after to (seal.sealing_finished s).out
 FinishesSo (Sealing s) to files after (ends.Outside outsides.ShelfFault) =
-    (n : ℕ) × Gains files after to (take n (seal.finished s).out)
+    (n : ℕ) × FileGains files after to (take n (seal.sealing_finished s).out)
 FinishesSo (Sealing s) to files after end = ⊥
 FinishesSo (Opening s) to files after ends.Done =
-    ((judged_now s).verdict ≡ Whole) × Gains files after to []
+    ((judged_now s).verdict ≡ Whole) × FileGains files after to []
 FinishesSo (Opening s) to files after (ends.Fault fault) =
     (fault_at_end (judged_now s).verdict ≡ Some fault) × (after ≡ files)
 FinishesSo (Opening s) to files after end = ⊥

@@ -1,5 +1,6 @@
 -- Each job that ended for a failure outside was counted by the object that failed.
-use Rattle.std.specs.Prelude.{◌≡◌, ◌<◌, ℕ, false, List, length, zip, if◌then◌else◌, Option, None, Some, is_some, slice_index_or}
+use Rattle.std.specs.Prelude.{◌≡◌, ◌<◌, ℕ, false, List, length, zip, if◌then◌else◌, Option, None}
+use Rattle.std.specs.Prelude.{Some, is_some, slice_index_or}
 use Rattle.std.specs.List.{sum_by}
 use Rattle.esdk_fields.specs.declared.refusals.Outside.TheVariants as outsides
 use Rattle.esdk_fields.specs.Counts.{RoseBy}
@@ -91,7 +92,7 @@ pub record PieceCounts (to : List ℕ) (end : Option JobEnd) (before now : Shelf
 -- ---- all jobs
 
 -- What was counted since the batch began, where the jobs stand so.
-pub record AllCounted (jobs : List Job) (began now : Tally) (progress : List Progress)
+pub record JobsCounted (jobs : List Job) (began now : Tally) (progress : List Progress)
     : Type 0 where
   pub told : is_some now.files ≡ is_some began.files
   pub others : OnlyWritten jobs began.files now.files

@@ -4,7 +4,7 @@ use Rattle.esdk_fields.specs.Counts.{Rose}
 use Rattle.esdk_base.specs.Shelf.{is_missing}
 use Rattle.esdk_base.specs.Streams.{ShelfState}
 use Rattle.esdk_batch.specs.declared.file_end.FileEnd.{FileEnd}
-use Rattle.esdk_batch.specs.Files.{Gains}
+use Rattle.esdk_batch.specs.Files.{FileGains}
 use Rattle.esdk_batch.specs.ShelfCalls.{HasCalls, IsWrite}
 use Rattle.esdk_batch.specs.Watching.{IsFrom, Watch, files_by}
 
@@ -15,16 +15,16 @@ pub record FileTakes (lent still : ℕ) (name same : List ℕ) (old new : ShelfS
   pub shelf : still ≡ lent
   pub file : same ≡ name
   pub gains : (by : Watch) → IsFrom by old
-      → Gains (files_by by old) (files_by by new) name bytes
+      → FileGains (files_by by old) (files_by by new) name bytes
   pub calls : HasCalls (IsWrite name) old new
 
 -- An append failed, and the file gained a front of these bytes.
-pub record FileFails (lent still : ℕ) (name same : List ℕ) (old new : ShelfState)
+pub record AppendFails (lent still : ℕ) (name same : List ℕ) (old new : ShelfState)
     (bytes : List ℕ) : Type 0 where
   pub shelf : still ≡ lent
   pub file : same ≡ name
   pub gains : (by : Watch) → IsFrom by old
-      → (count : ℕ) × Gains (files_by by old) (files_by by new) name (take count bytes)
+      → (count : ℕ) × FileGains (files_by by old) (files_by by new) name (take count bytes)
   pub calls : HasCalls (IsWrite name) old new
   pub rose : is_missing old.files name ≡ false → Rose old.faults new.faults
 
@@ -37,5 +37,5 @@ file_takes state old new bytes =
 abbrev pub file_fails : {F E : Type 0} → (F → ShelfState) → FileEnd F → FileEnd F → List ℕ → E
     → Type 0
 file_fails state old new bytes error =
-    FileFails old.shelf.ghost_name new.shelf.ghost_name old.name.now new.name.now
+    AppendFails old.shelf.ghost_name new.shelf.ghost_name old.name.now new.name.now
     (state old.shelf.now) (state new.shelf.now) bytes

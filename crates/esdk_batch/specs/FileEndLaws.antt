@@ -1,6 +1,7 @@
 -- What appending bytes to a file keeps, one append after another; and the laws of receivers, which
 -- an `impl` can cite from specs/ alone.
-use Rattle.std.proofs.Common.{◌≡◌, ◌∙◌, ℕ, ◌+◌, false, List, [], ◌++◌, length, take, refl, sym, ap, subst, arith, append_assoc, append-nil}
+use Rattle.std.proofs.Common.{◌≡◌, ◌∙◌, ℕ, ◌+◌, false, List, [], ◌++◌, length, take, refl, sym, ap}
+use Rattle.std.proofs.Common.{subst, arith, append_assoc, append-nil}
 use Rattle.std.proofs.Math.Seq.{take-append-add}
 use Rattle.std.specs.Prelude.{is_none, is_some}
 use Rattle.std.proofs.lemmas.List.{length-append}
@@ -11,8 +12,8 @@ use Rattle.std.specs.Option.{option_map}
 use Rattle.esdk_seen.specs.Calls.{ShelfCall}
 use Rattle.esdk_base.specs.Shelf.{Files, file_of, is_missing}
 use Rattle.esdk_base.specs.Streams.{ShelfState}
-use Rattle.esdk_batch.specs.FileEnd.{FileFails, FileTakes}
-use Rattle.esdk_batch.specs.Files.{Gains, KeepsOthers}
+use Rattle.esdk_batch.specs.FileEnd.{AppendFails, FileTakes}
+use Rattle.esdk_batch.specs.Files.{FileGains, KeepsOthers}
 use Rattle.esdk_batch.specs.ShelfCalls.{HasCalls, IsWrite}
 use Rattle.esdk_batch.specs.Watching.{IsFrom, Watch, as_shown, as_told, files_by}
 
@@ -31,8 +32,8 @@ others_more first mid last name one two = record {
   others = λ other apart. two.others other apart ∙ one.others other apart;
 }
 
-gains_more : (first mid last : Option Files) (name x y : List ℕ) → Gains first mid name x
-    → Gains mid last name y → Gains first last name (x ++ y)
+gains_more : (first mid last : Option Files) (name x y : List ℕ) → FileGains first mid name x
+    → FileGains mid last name y → FileGains first last name (x ++ y)
 gains_more first mid last name x y one two = record {
   keeps = others_more first mid last name one.keeps two.keeps;
   this = two.this ∙ ap (option_map (λ held. held ++ y)) one.this
@@ -44,7 +45,7 @@ nothing_behind None = refl
 nothing_behind (Some bytes) = ap (λ b. Some b) (sym (append-nil bytes))
 
 -- nothing was appended
-pub gained_nothing : (told : Option Files) (name : List ℕ) → Gains told told name []
+pub gained_nothing : (told : Option Files) (name : List ℕ) → FileGains told told name []
 gained_nothing told name = record {
   keeps = record { tells = refl; others = λ other apart. refl };
   this = nothing_behind (file_of told name);
@@ -67,7 +68,7 @@ gained_missing (Some files) (Some left) name bytes told this =
     ap is_none this ∙ mapped_there (file_of (Some files) name) bytes
 
 -- what was there before an append is there behind it
-pub gained_there : (old new : Option Files) (name bytes : List ℕ) → Gains old new name bytes
+pub gained_there : (old new : Option Files) (name bytes : List ℕ) → FileGains old new name bytes
     → is_missing old name ≡ false → is_missing new name ≡ false
 gained_there old new name bytes gains there =
     gained_missing old new name bytes gains.keeps.tells gains.this ∙ there
@@ -84,7 +85,8 @@ calls_none P shelf = record {
 }
 
 -- some behind others
-abbrev pub calls_more : (P : ShelfCall → Type 0) (a b c : ShelfState) → HasCalls P a b → HasCalls P b c
+abbrev pub calls_more : (P : ShelfCall → Type 0) (a b c : ShelfState) → HasCalls P a b
+    → HasCalls P b c
     → HasCalls P a c
 calls_more P a b c one two = record {
   made = one.made ++ two.made;
@@ -103,45 +105,45 @@ from_later P (as_shown since before) old new has from =
 
 -- ---- the laws
 
-pub takes_none : (lent : ℕ) (name : List ℕ) (shelf : ShelfState)
+pub file_takes_none : (lent : ℕ) (name : List ℕ) (shelf : ShelfState)
     → FileTakes lent lent name name shelf shelf []
-takes_none lent name shelf = record {
+file_takes_none lent name shelf = record {
   shelf = refl;
   file = refl;
   gains = λ by from. gained_nothing (files_by by shelf) name;
   calls = calls_none (IsWrite name) shelf;
 }
 
-pub takes_more : (l m n : ℕ) (x y z : List ℕ) (a b c : ShelfState) (first second : List ℕ)
+pub file_takes_more : (l m n : ℕ) (x y z : List ℕ) (a b c : ShelfState) (first second : List ℕ)
     → FileTakes l m x y a b first → FileTakes m n y z b c second
     → FileTakes l n x z a c (first ++ second)
-takes_more l m n x y z a b c first second one two = record {
+file_takes_more l m n x y z a b c first second one two = record {
   shelf = two.shelf ∙ one.shelf;
   file = two.file ∙ one.file;
   gains = λ by from.
       gains_more (files_by by a) (files_by by b) (files_by by c) x first second
       (one.gains by from)
-      (subst (λ (name : List ℕ). Gains (files_by by b) (files_by by c) name second) one.file
+      (subst (λ (name : List ℕ). FileGains (files_by by b) (files_by by c) name second) one.file
       (two.gains by (from_later (IsWrite x) by a b one.calls from)));
   calls = calls_more (IsWrite x) a b c one.calls
       (subst (λ (name : List ℕ). HasCalls (IsWrite name) b c) one.file two.calls);
 }
 
-pub fails_behind : (l m n : ℕ) (x y z : List ℕ) (a b c : ShelfState) (first second : List ℕ)
-    → FileTakes l m x y a b first → FileFails m n y z b c second
-    → FileFails l n x z a c (first ++ second)
-fails_behind l m n x y z a b c first second one two = record {
+pub file_fails_behind : (l m n : ℕ) (x y z : List ℕ) (a b c : ShelfState) (first second : List ℕ)
+    → FileTakes l m x y a b first → AppendFails m n y z b c second
+    → AppendFails l n x z a c (first ++ second)
+file_fails_behind l m n x y z a b c first second one two = record {
   shelf = two.shelf ∙ one.shelf;
   file = two.file ∙ one.file;
   gains = λ by from.
       (let more = two.gains by (from_later (IsWrite x) by a b one.calls from) in
       let front : List ℕ = take more.0 second in (
         length first + more.0,
-        subst (λ (bytes : List ℕ). Gains (files_by by a) (files_by by c) x bytes)
+        subst (λ (bytes : List ℕ). FileGains (files_by by a) (files_by by c) x bytes)
             (sym (take-append-add first second more.0))
             (gains_more (files_by by a) (files_by by b) (files_by by c) x first front
             (one.gains by from)
-            (subst (λ (name : List ℕ). Gains (files_by by b) (files_by by c) name front)
+            (subst (λ (name : List ℕ). FileGains (files_by by b) (files_by by c) name front)
             one.file more.1)),
       ));
   calls = calls_more (IsWrite x) a b c one.calls

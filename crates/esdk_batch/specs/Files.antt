@@ -1,11 +1,12 @@
 -- The files of a shelf before and after some calls, name by name.
-use Rattle.std.specs.Prelude.{◌≡◌, ◌≢◌, ◌⊎◌, ◌≤◌, ◌+◌, ◌^◌, ℕ, true, false, List, [], ◌++◌, length, take, drop, is_some, Result, Ok, Err}
+use Rattle.std.specs.Prelude.{◌≡◌, ◌≢◌, ◌⊎◌, ◌≤◌, ◌+◌, ℕ, true, false, List, [], ◌++◌, length, take}
+use Rattle.std.specs.Prelude.{drop, is_some, Result, Ok, Err}
 use Rattle.std.specs.declared.option.Option.{Option}
 use Rattle.std.specs.declared.option.Option.TheVariants.{Some}
 use Rattle.std.specs.Option.{option_map}
 use Rattle.esdk_fields.specs.declared.refusals.Outside.{Outside}
 use Rattle.esdk_fields.specs.declared.refusals.Outside.TheVariants as outsides
-use Rattle.esdk_base.specs.Streams.{ShelfState, FailsToRead}
+use Rattle.esdk_base.specs.Streams.{ShelfState, FailsToRead, most_input}
 use Rattle.esdk_base.specs.Shelf.{Files, Holds, file_of, is_missing}
 
 -- the shelf tells its files where it told them, and every other name holds what it held
@@ -14,7 +15,7 @@ pub record KeepsOthers (old new : Option Files) (name : List ℕ) : Type 0 where
   pub others : (other : List ℕ) → other ≢ name → file_of new other ≡ file_of old other
 
 -- The bytes were appended to the name.
-pub record Gains (old new : Option Files) (name bytes : List ℕ) : Type 0 where
+pub record FileGains (old new : Option Files) (name bytes : List ℕ) : Type 0 where
   pub keeps : KeepsOthers old new name
   pub this : file_of new name ≡ option_map (λ held. held ++ bytes) (file_of old name)
 
@@ -43,12 +44,8 @@ MakesFile old new name bytes (Err failed) =
 -- what putting these bytes behind the file comes to: all were, or a front of them
 abbrev pub Puts : {T E : Type 0} → Option Files → Option Files → List ℕ → List ℕ → Result T E
     → Type 0
-Puts old new name bytes (Ok done) = Gains old new name bytes
-Puts old new name bytes (Err failed) = (n : ℕ) × Gains old new name (take n bytes)
-
--- how many bytes of a file are taken at the most
-abbrev pub most_input : ℕ
-most_input = 2 ^ 62
+Puts old new name bytes (Ok done) = FileGains old new name bytes
+Puts old new name bytes (Err failed) = (n : ℕ) × FileGains old new name (take n bytes)
 
 -- The name is there, and so many bytes of what it holds, from this offset on, stand in the front of
 -- the buffer; none only at the end.

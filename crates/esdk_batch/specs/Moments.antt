@@ -1,5 +1,6 @@
 -- The moments of a batch: what the clock answered, and the lines that the journal gained with it.
-use Rattle.std.specs.Prelude.{◌≡◌, ◌≤◌, ℕ, List, [], ◌∷◌, ◌++◌, length, map, All, Option, option_map, IfSome}
+use Rattle.std.specs.Prelude.{◌≡◌, ◌≤◌, ℕ, List, [], ◌∷◌, ◌++◌, length, map, All, Option}
+use Rattle.std.specs.Prelude.{option_map, IfSome}
 use Rattle.std.specs.List.{flat_map}
 use Rattle.esdk_base.specs.Clock.{Moments, after_now, next_moment}
 use Rattle.esdk_base.specs.Streams.{ClockState}
@@ -21,17 +22,13 @@ pub record ClockAnswers (before : ClockState) (moments : List ℕ) (after : Cloc
   pub told : AnswersTold before.moments moments after.moments
 
 -- The moment that the clock answered, and the lines that the journal gained with it.
-pub record Turn : Type 0 where
+pub record TurnMoment : Type 0 where
   pub moment : ℕ
   pub lines : List JournalLine
 
 -- they bear the moment
-abbrev pub BearsMoment : Turn → Type 0
+abbrev pub BearsMoment : TurnMoment → Type 0
 BearsMoment turn = All (λ line. line.now ≡ turn.moment) turn.lines
-
--- they are one line at the most
-abbrev pub HasOneLine : Turn → Type 0
-HasOneLine turn = length turn.lines ≤ 1
 
 -- The journal gained a line at this moment, or none.
 pub record GainsAt (moment : ℕ) (before after : List JournalLine) : Type 0 where
@@ -52,8 +49,8 @@ pub record TakesMoment (before after : ClockState)
 -- order: for each answer one line at the most.
 pub record ReadsClock (before after : ClockState)
     (lines_before lines_after : List JournalLine) : Type 0 where
-  pub turns : List Turn
+  pub turns : List TurnMoment
   pub answers : ClockAnswers before (map (λ turn. turn.moment) turns) after
   pub journal : lines_after ≡ lines_before ++ flat_map (λ turn. turn.lines) turns
   pub bear : All BearsMoment turns
-  pub few : All HasOneLine turns
+  pub few : All (λ turn. length turn.lines ≤ 1) turns

@@ -5,7 +5,7 @@ use Rattle.esdk_base.specs.Shelf.{Files}
 use Rattle.keyring_trait.specs.declared.journal.Kind.{Kind}
 use Rattle.keyring_trait.specs.declared.served.Served.{Served}
 use Rattle.desk_core.specs.SealRequest.{SealRequestValue}
-use Rattle.desk_core.specs.Session.{SessionValue, header_of}
+use Rattle.desk_core.specs.Session.{SessionValue, sealed_header}
 use Rattle.desk_core.specs.Desk.{DeskValue}
 use Rattle.batch_report.specs.declared.job_lines.JobEnd.TheVariants as ends
 use Rattle.esdk_batch.specs.declared.progress.Progress.{Progress}
@@ -15,8 +15,8 @@ use Rattle.esdk_batch.specs.Files.{Holding}
 use Rattle.esdk_batch.specs.SealStory.{SealAsked, wish_of}
 
 -- what an encrypt job asks the desk for; there is no limit on entries
-abbrev pub request_of : SealAsked → SealRequestValue
-request_of asked = record { wish = wish_of asked; size = asked.frame; max_keys = None }
+abbrev pub job_request : SealAsked → SealRequestValue
+job_request asked = record { wish = wish_of asked; size = asked.frame; max_keys = None }
 
 -- The session is live, nothing was taken yet, and the file holds what the message begins with.
 -- Or the shelf failed, and the session is live no more.
@@ -24,11 +24,11 @@ abbrev pub BeginsSo : ℕ → Kind → Option Served → SessionValue → Option
     → Option Files → Option Files → List ℕ → Progress → Type 0
 BeginsSo session kind served s left files after to (stages.Live live) =
     (live ≡ record { session = session; at = 0; served = served })
-    × (left ≡ Some s) × Holding files after to (header_of s)
+    × (left ≡ Some s) × Holding files after to (sealed_header s)
 BeginsSo session kind served s left files after to (stages.Ended line) =
     (line ≡ record { kind = kind; end = ends.Outside outsides.ShelfFault; served = served })
     × (left ≡ None)
-    × ((after ≡ files) ⊎ ((n : ℕ) × Holding files after to (take n (header_of s))))
+    × ((after ≡ files) ⊎ ((n : ℕ) × Holding files after to (take n (sealed_header s))))
 BeginsSo session kind served s left files after to stages.Waiting = ⊥
 
 -- What making the file of a session comes to that was opened just now. The desk keeps all else.

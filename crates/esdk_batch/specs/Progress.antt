@@ -1,11 +1,12 @@
 -- How far the jobs of a batch are.
-use Rattle.std.specs.Prelude.{◌≡◌, ◌<◌, ◌+◌, ◌-◌, ℕ, Bool, true, false, List, length, map, take, All, Option, Some, None}
+use Rattle.std.specs.Prelude.{◌≡◌, ◌<◌, ◌+◌, ◌-◌, ℕ, Bool, true, false, List, length, map, take}
+use Rattle.std.specs.Prelude.{All, Option, Some, None}
 use Rattle.std.specs.List.{sum_by}
 use Rattle.std.specs.Prelude.{slice_index_or}
+use Rattle.esdk_base.specs.Streams.{most_input}
 use Rattle.esdk_batch.specs.declared.progress.Progress.{Progress}
 use Rattle.esdk_batch.specs.declared.progress.Progress.TheVariants.{Waiting, Live, Ended}
 use Rattle.batch_report.specs.declared.job_lines.JobLine.{JobLine}
-use Rattle.esdk_batch.specs.Files.{most_input}
 
 abbrev pub is_ended : Progress → Bool
 is_ended Waiting = false

@@ -1,5 +1,7 @@
 -- How all jobs of a batch stand between turns.
-use Rattle.std.specs.Prelude.{◌≡◌, ◌≢◌, ◌⊎◌, ◌≤◌, ◌<◌, ◌+◌, ℕ, Bool, true, false, List, [], ◌∷◌, ◌++◌, length, map, take, zip, filter_map, All, AllPairs, Option, Some, slice_index_or}
+use Rattle.std.specs.Prelude.{◌≡◌, ◌≢◌, ◌⊎◌, ◌≤◌, ◌<◌, ◌+◌, ℕ, Bool, true, false, List, [], ◌∷◌}
+use Rattle.std.specs.Prelude.{◌++◌, length, map, take, zip, filter_map, All, AllPairs, Option, Some}
+use Rattle.std.specs.Prelude.{slice_index_or}
 use Rattle.std.specs.List.{concat, sum_by}
 use Rattle.std.specs.List.Sorted.{IsPermutation}
 use Rattle.esdk_fields.specs.Counts.{Stayed}
@@ -16,7 +18,7 @@ use Rattle.job_file.specs.JobFile.{is_written}
 use Rattle.esdk_batch.specs.declared.progress.Progress.{Progress}
 use Rattle.esdk_batch.specs.declared.progress.Progress.TheVariants as stages
 use Rattle.esdk_batch.specs.Batch.{Draws, OnlyWritten, SealsFirst, in_line}
-use Rattle.esdk_batch.specs.Underway.{HasSession, IsAt, LacksSession, beside}
+use Rattle.esdk_batch.specs.Underway.{JobHasSession, IsAt, LacksSession, sessions_beside}
 use Rattle.esdk_batch.specs.Turns.{HasKind, Knows, answered_so_far, waits}
 
 -- ---- jobs that had a turn
@@ -31,8 +33,8 @@ abbrev pub HaveBegun : ℕ → List Progress → Type 0
 HaveBegun count progress = All (λ one. has_begun one ≡ true) (take count progress)
 
 -- no job had a turn; or each of the first jobs had one, so many as have their turns in a round
-abbrev pub IsOpened : ℕ → List Progress → Type 0
-IsOpened width progress = All (λ one. one ≡ stages.Waiting) progress ⊎ HaveBegun width progress
+abbrev pub RoundIsBegun : ℕ → List Progress → Type 0
+RoundIsBegun width progress = All (λ one. one ≡ stages.Waiting) progress ⊎ HaveBegun width progress
 
 -- how many wait
 abbrev pub all_waits : List Progress → ℕ
@@ -58,7 +60,7 @@ HasOwn (stages.Ended line) other = Unit {0}
 -- are opened in their order: behind one that waits all wait.
 pub record HaveSessions (jobs : List Job) (progress : List Progress)
     (live : ℕ → Option SessionValue) : Type 0 where
-  pub sessions : All (HasSession live) progress
+  pub sessions : All (JobHasSession live) progress
   pub knows : (k : ℕ) (job : Job) (one : Progress) → k < length progress
       → Knows (slice_index_or jobs k job).work (slice_index_or progress k one) live
   pub own : (i j : ℕ) (one : Progress) → i ≢ j → i < length progress → j < length progress
@@ -72,7 +74,7 @@ AreReady desk jobs progress = (v : DeskValue) × Stands desk v × HaveSessions j
 -- the sessions that are live beside those of these jobs
 abbrev pub beside_all : List Progress → (ℕ → Option SessionValue) → ℕ → Option SessionValue
 beside_all [] live = live
-beside_all (one ∷ others) live = beside one (beside_all others live)
+beside_all (one ∷ others) live = sessions_beside one (beside_all others live)
 
 -- ---- what came so far
 

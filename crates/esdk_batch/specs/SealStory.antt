@@ -1,5 +1,6 @@
 -- What an encrypt job comes to. Standard: AWS Encryption SDK Specification, "Encrypt".
 use Rattle.std.specs.Prelude.{◌≡◌, ◌⊎◌, ◌≤◌, ◌<◌, ℕ, List, [], length, take, Option, Some, None}
+use Rattle.esdk_base.specs.Streams.{most_input}
 use Rattle.esdk_fields.specs.declared.refusals.Outside.TheVariants as outsides
 use Rattle.esdk_fields.specs.declared.refusals.Refusal.{Refusal}
 use Rattle.esdk_fields.specs.declared.refusals.Refusal.TheVariants as refusals
@@ -12,11 +13,10 @@ use Rattle.keyring_trait.specs.Materials.{EncMaterialsValue}
 use Rattle.keyring_trait.specs.Requests.{EncRequestValue}
 use Rattle.keyring_trait.specs.Saying.{Saying}
 use Rattle.stream_seal.specs.Feeding.{most_of, over_of}
-use Rattle.stream_seal.specs.Start.{message_of, most_text, start_refusal}
-use Rattle.esdk_encrypt.specs.Encrypt.{draws, drawn_id, drawn_rest, written_so_far}
+use Rattle.stream_seal.specs.Start.{message_of, most_text, start_refusal, drawn_id, drawn_rest}
+use Rattle.esdk_encrypt.specs.Encrypt.{drawn_count, written_so_far}
 use Rattle.batch_report.specs.declared.job_lines.JobEnd.{JobEnd}
 use Rattle.batch_report.specs.declared.job_lines.JobEnd.TheVariants as ends
-use Rattle.esdk_batch.specs.Files.{most_input}
 
 -- What an encrypt job asks for.
 pub record SealAsked : Type 0 where
@@ -43,9 +43,9 @@ wish_of asked = record {
 }
 
 -- what a file holds that may be missing
-abbrev pub held : Option (List ℕ) → List ℕ
-held None = []
-held (Some bytes) = bytes
+abbrev pub held_or_none : Option (List ℕ) → List ℕ
+held_or_none None = []
+held_or_none (Some bytes) = bytes
 
 -- how many bytes it takes at the most: as many as are declared, and as a message has room for
 abbrev pub most_sealed : SealAsked → ℕ
@@ -53,13 +53,13 @@ most_sealed asked = most_of asked.declared (most_text asked.frame)
 
 -- the text, cut there
 abbrev pub sealed_text : SealAsked → Seen → List ℕ
-sealed_text asked seen = take (most_sealed asked) (held seen.from)
+sealed_text asked seen = take (most_sealed asked) (held_or_none seen.from)
 
 -- The job drew its bytes, and the manager gave these materials for them, at some moment, which were
 -- served so.
-pub record IsGiven (manager : Saying) (asked : SealAsked) (seen : Seen)
+pub record JobIsGiven (manager : Saying) (asked : SealAsked) (seen : Seen)
     (materials : EncMaterialsValue) : Type 0 where
-  pub count : length seen.drawn ≡ draws manager.wraps
+  pub count : length seen.drawn ≡ drawn_count manager.wraps
   pub moment : ℕ
   pub given : manager.gives (wish_of asked) moment (drawn_rest seen.drawn) materials
   pub served : seen.served ≡ Some materials.served
@@ -68,7 +68,7 @@ pub record IsGiven (manager : Saying) (asked : SealAsked) (seen : Seen)
 -- that is declared and has room.
 pub record SealsFront (manager : Saying) (asked : SealAsked) (seen : Seen) : Type 0 where
   pub materials : EncMaterialsValue
-  pub given : IsGiven manager asked seen materials
+  pub given : JobIsGiven manager asked seen materials
   pub begins : start_refusal materials None (drawn_id seen.drawn) ≡ None
   pub count : ℕ
   pub front : seen.to ≡ Some (take count (message_of materials asked.frame (drawn_id seen.drawn)
@@ -78,7 +78,7 @@ pub record SealsFront (manager : Saying) (asked : SealAsked) (seen : Seen) : Typ
 pub record SealsWhole (manager : Saying) (asked : SealAsked) (seen : Seen) : Type 0 where
   pub materials : EncMaterialsValue
   pub text : List ℕ
-  pub given : IsGiven manager asked seen materials
+  pub given : JobIsGiven manager asked seen materials
   pub begins : start_refusal materials None (drawn_id seen.drawn) ≡ None
   pub from : seen.from ≡ Some text
   pub short : length text ≤ most_sealed asked
@@ -89,7 +89,7 @@ pub record SealsWhole (manager : Saying) (asked : SealAsked) (seen : Seen) : Typ
 pub record SealsTooMuch (manager : Saying) (asked : SealAsked) (seen : Seen)
     (refusal : Refusal) : Type 0 where
   pub materials : EncMaterialsValue
-  pub given : IsGiven manager asked seen materials
+  pub given : JobIsGiven manager asked seen materials
   pub begins : start_refusal materials None (drawn_id seen.drawn) ≡ None
   pub text : List ℕ
   pub from : seen.from ≡ Some text
@@ -101,7 +101,7 @@ pub record SealsTooMuch (manager : Saying) (asked : SealAsked) (seen : Seen)
 -- It drew its bytes, the manager gave nothing, for this reason, and its file is as before.
 pub record IsGivenNone (manager : Saying) (asked : SealAsked) (seen : Seen)
     (error : ManagerError) : Type 0 where
-  pub count : length seen.drawn ≡ draws manager.wraps
+  pub count : length seen.drawn ≡ drawn_count manager.wraps
   pub cause : manager.gives_none (wish_of asked) error
   pub unserved : seen.served ≡ None
   pub same : seen.to ≡ seen.before
@@ -116,13 +116,13 @@ pub record DrawsNone (seen : Seen) : Type 0 where
 -- or holds a front of the message.
 pub record ShelfFails (manager : Saying) (asked : SealAsked) (seen : Seen) : Type 0 where
   pub materials : EncMaterialsValue
-  pub given : IsGiven manager asked seen materials
+  pub given : JobIsGiven manager asked seen materials
   pub left : (seen.to ≡ seen.before) ⊎ SealsFront manager asked seen
 
 -- It took 2^62 bytes, its end wasn't seen, and its file holds a front of the message.
-pub record IsTooLong (manager : Saying) (asked : SealAsked) (seen : Seen) : Type 0 where
+pub record SealJobIsTooLong (manager : Saying) (asked : SealAsked) (seen : Seen) : Type 0 where
   pub front : SealsFront manager asked seen
-  pub long : most_input ≤ length (held seen.from)
+  pub long : most_input ≤ length (held_or_none seen.from)
 
 -- What it comes to, by how it ended. It ends neither with Q7 nor with Q8: a job sets no limit on
 -- the number of entries; and of what the manager gives a header can always be made, since there are
@@ -141,6 +141,7 @@ SealsSo manager asked seen (ends.Outside outsides.EntropyFault) = DrawsNone seen
 SealsSo manager asked seen (ends.Outside outsides.KeyringFault) =
     IsGivenNone manager asked seen managers.KeyringFault
 SealsSo manager asked seen (ends.Outside outsides.ShelfFault) = ShelfFails manager asked seen
-SealsSo manager asked seen (ends.Outside outsides.InputTooLong) = IsTooLong manager asked seen
+SealsSo manager asked seen (ends.Outside outsides.InputTooLong) =
+    SealJobIsTooLong manager asked seen
 SealsSo manager asked seen (ends.Outside outside) = ⊥
 SealsSo manager asked seen (ends.Fault fault) = ⊥

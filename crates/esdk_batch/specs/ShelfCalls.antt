@@ -1,6 +1,7 @@
 -- What a batch calls of its shelf, which every shelf tells: whose files it reads, makes, appends to
 -- and finishes; and that each job's file is finished once, behind all that is written into it.
-use Rattle.std.specs.Prelude.{◌≡◌, ◌≢◌, ◌⊎◌, ◌≤◌, ◌<◌, ℕ, Bool, true, false, List, [], ◌∷◌, ◌++◌, length, All, slice_index_or}
+use Rattle.std.specs.Prelude.{◌≡◌, ◌≢◌, ◌⊎◌, ◌≤◌, ◌<◌, ℕ, Bool, true, false, List, [], ◌∷◌, ◌++◌}
+use Rattle.std.specs.Prelude.{length, All, slice_index_or}
 use Rattle.std.specs.List.{AllZip, filter, list_any}
 use Rattle.std.specs.Str.{bytes_eq}
 use Rattle.esdk_fields.specs.Counts.{Rose}
@@ -28,9 +29,9 @@ pub record HasCalls (P : ShelfCall → Type 0) (old new : ShelfState) : Type 0 w
   pub later : old.faults ≤ new.faults
 
 -- it reads the file of this name
-abbrev pub IsRead : List ℕ → ShelfCall → Type 0
-IsRead name (reads other at bytes) = other ≡ name
-IsRead name call = ⊥
+abbrev pub IsReadOf : List ℕ → ShelfCall → Type 0
+IsReadOf name (reads other at bytes) = other ≡ name
+IsReadOf name call = ⊥
 
 -- it makes the file of this name, or appends to it
 abbrev pub IsWrite : List ℕ → ShelfCall → Type 0
@@ -42,7 +43,7 @@ IsWrite name call = ⊥
 
 -- it reads what the job reads, or writes what the job writes
 abbrev pub IsOfTurn : Job → ShelfCall → Type 0
-IsOfTurn job call = IsRead job.from call ⊎ IsWrite job.to call
+IsOfTurn job call = IsReadOf job.from call ⊎ IsWrite job.to call
 
 -- the same, or it finishes what the job writes
 abbrev pub IsOfJob : Job → ShelfCall → Type 0
@@ -81,8 +82,8 @@ IsFinished job made = FinishesOnce job.to (readers_of (kind_of job.work)) made
 
 -- The job ended so, and its file was finished; or that isn't told, and then the shelf failed, and
 -- the job isn't done.
-abbrev pub IsOver : Job → JobEnd → List ShelfCall → (before now : ℕ) → Type 0
-IsOver job end made before now =
+abbrev pub JobIsOver : Job → JobEnd → List ShelfCall → (before now : ℕ) → Type 0
+JobIsOver job end made before now =
     IsFinished job made
     ⊎ (FinishesNot job.to made × (end ≢ ends.Done) × Rose before now)
 
@@ -90,7 +91,7 @@ IsOver job end made before now =
 abbrev pub IsFinishedSo : Job → Progress → List ShelfCall → (before now : ℕ) → Type 0
 IsFinishedSo job stages.Waiting made before now = FinishesNot job.to made
 IsFinishedSo job (stages.Live live) made before now = FinishesNot job.to made
-IsFinishedSo job (stages.Ended line) made before now = IsOver job line.end made before now
+IsFinishedSo job (stages.Ended line) made before now = JobIsOver job line.end made before now
 
 -- Where the job ended, its file was finished by one call, for those who may read what the job
 -- wrote; or that failed and isn't told, and what is said of the job is what is said then.
@@ -109,13 +110,9 @@ pub record TurnCalls (job : Job) (new : Progress) (before now : ShelfState) : Ty
 
 -- ---- all jobs
 
--- some job is to read this name
-abbrev pub is_read : List Job → List ℕ → Bool
-is_read jobs name = list_any (λ job. bytes_eq name job.from) jobs
-
 -- it reads what some job reads; or it makes what some job writes, appends to it or finishes it
 abbrev pub IsOfJobs : List Job → ShelfCall → Type 0
-IsOfJobs jobs (reads name at bytes) = is_read jobs name ≡ true
+IsOfJobs jobs (reads name at bytes) = (list_any (λ job. bytes_eq name job.from) jobs) ≡ true
 IsOfJobs jobs (creates name) = is_written jobs name ≡ true
 IsOfJobs jobs (appends name bytes) = is_written jobs name ≡ true
 IsOfJobs jobs (announces name) = ⊥
@@ -129,19 +126,15 @@ pub record JobsCall (jobs : List Job) (began now : ShelfState) (progress : List 
       → IsFinishedSo (slice_index_or jobs k job) (slice_index_or progress k one) has.made
       began.faults now.faults
 
--- the job's file was finished once at the most
-abbrev pub IsFinishedAtMost : Job → List ShelfCall → Type 0
-IsFinishedAtMost job made = IsFinished job made ⊎ FinishesNot job.to made
-
 -- The calls since a batch began are of files that its jobs read and write, and each job's file was
 -- finished once at the most.
 pub record CallsAtMost (jobs : List Job) (began now : ShelfState) : Type 0 where
   pub has : HasCalls (IsOfJobs jobs) began now
-  pub most : All (λ job. IsFinishedAtMost job has.made) jobs
+  pub most : All (λ job. IsFinished job has.made ⊎ FinishesNot job.to has.made) jobs
 
 -- The jobs all ended, and each job's file was finished; or that isn't told, and then the shelf
 -- failed since the batch began, and the job isn't done.
 pub record AreFinished (jobs : List Job) (began now : ShelfState) (lines : List JobLine)
     : Type 0 where
   pub has : HasCalls (IsOfJobs jobs) began now
-  pub over : AllZip (λ job line. IsOver job line.end has.made began.faults now.faults) jobs lines
+  pub over : AllZip (λ job line. JobIsOver job line.end has.made began.faults now.faults) jobs lines

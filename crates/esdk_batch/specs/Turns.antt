@@ -1,6 +1,7 @@
 -- What a turn takes of all that the jobs share: a number of the desk, bytes that are drawn, and
 -- lines of the journal.
-use Rattle.std.specs.Prelude.{◌≡◌, ◌≤◌, ◌+◌, ℕ, List, ◌++◌, map, All, Option, Some, None, option_map}
+use Rattle.std.specs.Prelude.{◌≡◌, ◌≤◌, ◌+◌, ℕ, List, ◌++◌, map, All, Option, Some, None}
+use Rattle.std.specs.Prelude.{option_map}
 use Rattle.std.specs.Option.{option_to_list}
 use Rattle.esdk_fields.specs.Counts.{Stayed}
 use Rattle.esdk_base.specs.Streams.{EntropyState}
@@ -16,7 +17,7 @@ use Rattle.job_file.specs.declared.job.Work.{Work}
 use Rattle.job_file.specs.declared.job.Work.TheVariants.{Encrypt, Decrypt}
 use Rattle.esdk_batch.specs.declared.progress.Progress.{Progress}
 use Rattle.esdk_batch.specs.declared.progress.Progress.TheVariants as stages
-use Rattle.esdk_batch.specs.Batch.{Answered, in_line, kind_of, length_of}
+use Rattle.esdk_batch.specs.Batch.{ManagerAnswer, in_line, kind_of, length_of}
 
 -- ---- two answers
 
@@ -69,7 +70,7 @@ served_so_far stages.Waiting = None
 served_so_far (stages.Live now) = now.served
 served_so_far (stages.Ended line) = line.served
 
-abbrev pub answered_so_far : Job × Progress → Option Answered
+abbrev pub answered_so_far : Job × Progress → Option ManagerAnswer
 answered_so_far pair =
     option_map (λ served. record {
       kind = kind_of pair.0.work;

@@ -8,7 +8,7 @@ ghost use Rattle.desk_core.specs.Desk.{DeskValue};
 ghost use Rattle.desk_core.specs.Stands.{IsWorth, Stands, manager_of, journal_of};
 ghost use Rattle.keyring_trait.specs.Saying.{said_between};
 ghost use Rattle.esdk_batch.specs.Managing.{ManagerWent, SaysWithin};
-ghost use Rattle.esdk_batch.specs.Ending.{EndsBy, EndsSession, FeedsPiece};
+ghost use Rattle.esdk_batch.specs.Ending.{JobEndsBy, EndsSession, FeedsJobPiece};
 ghost use Rattle.esdk_batch.specs.Keeping.{KeepsSessions};
 ghost use Rattle.esdk_base.specs.Shelf.{is_missing};
 ghost use Rattle.esdk_batch.specs.Failures.{PieceCounts};
@@ -44,7 +44,7 @@ pub(crate) fn feed_piece<M: Manager, F: Shelf>(
         → IsFrom by (F.state shelf.old)
         → SaysWithin M.state first last desk.old desk.new
         → Stands desk.old v → v.live session ≡ Some s
-        → IfOk result (λ end. (w : DeskValue) × Stands desk.new w × FeedsPiece
+        → IfOk result (λ end. (w : DeskValue) × Stands desk.new w × FeedsJobPiece
         (said_between (M.state first) (M.state last))
         session s piece.now v w to.now
         (files_by by (F.state shelf.old)) (files_by by (F.state shelf.new)) end) }
@@ -101,7 +101,7 @@ pub(crate) fn end_session<M: Manager, F: Shelf>(
 /// where memory ran out.
 fn end_by(error: FeedError<DeskError, Failed>) -> Result<JobEnd, AllocError>
     requires { error ≢ Machine NotLive }
-    ensures { EndsBy error result }
+    ensures { JobEndsBy error result }
 {
     match error {
         FeedError::Machine(error) => end_of(error),

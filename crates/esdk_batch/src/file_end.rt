@@ -12,7 +12,8 @@ pub(crate) struct FileEnd<'s, F> {
 
 impl<F: Shelf> Receiver for FileEnd<'_, F> {
     ghost use Rattle.esdk_batch.specs.FileEnd.{file_fails, file_takes};
-    ghost use Rattle.esdk_batch.specs.FileEndLaws.{fails_behind, takes_more, takes_none};
+    ghost use Rattle.esdk_batch.specs.FileEndLaws.{file_fails_behind, file_takes_more};
+    ghost use Rattle.esdk_batch.specs.FileEndLaws.{file_takes_none};
 
     type Error = Failed;
 
@@ -24,15 +25,15 @@ impl<F: Shelf> Receiver for FileEnd<'_, F> {
         put(self.shelf, self.name, bytes)
     }
 
-    ghost takes_none = { λ r. takes_none r.shelf.ghost_name r.name.now (F.state r.shelf.now) };
+    ghost takes_none = { λ r. file_takes_none r.shelf.ghost_name r.name.now (F.state r.shelf.now) };
 
     ghost takes_more = { λ r s t first second.
-        takes_more r.shelf.ghost_name s.shelf.ghost_name t.shelf.ghost_name
+        file_takes_more r.shelf.ghost_name s.shelf.ghost_name t.shelf.ghost_name
         r.name.now s.name.now t.name.now
         (F.state r.shelf.now) (F.state s.shelf.now) (F.state t.shelf.now) first second };
 
     ghost fails_behind = { λ r s t first second _.
-        fails_behind r.shelf.ghost_name s.shelf.ghost_name t.shelf.ghost_name
+        file_fails_behind r.shelf.ghost_name s.shelf.ghost_name t.shelf.ghost_name
         r.name.now s.name.now t.name.now
         (F.state r.shelf.now) (F.state s.shelf.now) (F.state t.shelf.now) first second };
 }

@@ -4,8 +4,9 @@ ghost use Rattle.std.specs.Prelude.{◌≡◌, ◌≤◌, ◌<◌, false, length
 ghost use Rattle.esdk_fields.specs.Counts.{HasCause, Rose};
 ghost use Rattle.esdk_base.specs.Shelf.{HasCauseOrMissing, is_missing};
 ghost use Rattle.esdk_base.specs.Told.{TellsRead};
-ghost use Rattle.esdk_batch.specs.Files.{KeepsOthers, Makes, Puts, ReadsAt, most_input};
-ghost use Rattle.esdk_batch.specs.ShelfCalls.{HasCalls, IsRead, IsWrite};
+ghost use Rattle.esdk_base.specs.Streams.{most_input};
+ghost use Rattle.esdk_batch.specs.Files.{KeepsOthers, Makes, Puts, ReadsAt};
+ghost use Rattle.esdk_batch.specs.ShelfCalls.{HasCalls, IsReadOf, IsWrite};
 ghost use Rattle.esdk_batch.specs.Watching.{IsFrom, Watch, files_by};
 
 use esdk_base::{Failed, Shelf};
@@ -29,7 +30,7 @@ pub(crate) fn read_piece<F: Shelf>(
     requires room { 0 < length buffer.old }
     ensures reads { ReadsAt (F.state shelf.old) (F.state shelf.new) name.now at buffer.new result }
     ensures stays { (F.state shelf.new).files ≡ (F.state shelf.old).files }
-    ensures calls { HasCalls (IsRead name.now) (F.state shelf.old) (F.state shelf.new) }
+    ensures calls { HasCalls (IsReadOf name.now) (F.state shelf.old) (F.state shelf.new) }
     ensures tells { TellsRead (F.state shelf.old).calls
         (F.state shelf.new).calls result name.now at buffer.new }
 {
@@ -48,7 +49,8 @@ pub(crate) fn read_piece<F: Shelf>(
 pub(crate) fn make<F: Shelf>(shelf: &mut F, name: &str) -> Result<(), Failed>
     ensures kept { KeepsOthers (F.state shelf.old).files (F.state shelf.new).files name.now }
     ensures makes { (by : Watch) → IsFrom by (F.state shelf.old)
-        → Makes (files_by by (F.state shelf.old)) (files_by by (F.state shelf.new)) name.now result }
+        → Makes (files_by by (F.state shelf.old)) (files_by by (F.state shelf.new)) name.now
+        result }
     ensures cause { HasCause (F.state shelf.old).faults (F.state shelf.new).faults result }
     ensures calls { HasCalls (IsWrite name.now) (F.state shelf.old) (F.state shelf.new) }
 {

@@ -1,6 +1,7 @@
 //! The first turn of a job, which opens its session.
 
-ghost use Rattle.std.specs.Prelude.{◌≡◌, ◌≢◌, ◌≤◌, ◌<◌, ◌+◌, ◌-◌, ◌^◌, ℕ, true, false, List, [], None, Some, IfOk, OnErr, OnOk, option_map, slice_get};
+ghost use Rattle.std.specs.Prelude.{◌≡◌, ◌≢◌, ◌≤◌, ◌<◌, ◌+◌, ◌-◌, ◌^◌, ℕ, true, false, List, []};
+ghost use Rattle.std.specs.Prelude.{None, Some, IfOk, OnErr, OnOk, option_map, slice_get};
 ghost use Rattle.esdk_fields.specs.Counts.{Rose};
 ghost use Rattle.esdk_base.specs.Shelf.{is_missing};
 ghost use Rattle.esdk_base.specs.Streams.{EntropyState};
@@ -11,7 +12,7 @@ ghost use Rattle.job_file.specs.declared.job.Job.{Job};
 ghost use Rattle.job_file.specs.declared.job.Work.{Work};
 ghost use Rattle.job_file.specs.declared.job.Work.TheVariants.{Decrypt, Encrypt};
 ghost use Rattle.desk_core.specs.declared.errors.DeskError.TheVariants.{NotLive};
-ghost use Rattle.desk_core.specs.Session.{SessionValue, header_of};
+ghost use Rattle.desk_core.specs.Session.{SessionValue, sealed_header};
 ghost use Rattle.desk_core.specs.Desk.{DeskValue};
 ghost use Rattle.desk_core.specs.Stands.{IsWorth, Stands, manager_of, journal_of, last_of};
 ghost use Rattle.esdk_batch.specs.declared.progress.Progress.TheVariants.{Waiting};
@@ -24,7 +25,7 @@ ghost use Rattle.esdk_batch.specs.Files.{KeepsOthers, MakesFile};
 ghost use Rattle.esdk_batch.specs.Moments.{GainsAt};
 ghost use Rattle.esdk_batch.specs.Ending.{EndsFor};
 ghost use Rattle.esdk_batch.specs.Keeping.{KeepsSessions};
-ghost use Rattle.esdk_batch.specs.Opening.{BeginsFile, request_of};
+ghost use Rattle.esdk_batch.specs.Opening.{BeginsFile, job_request};
 ghost use Rattle.esdk_batch.specs.SealStory.{SealAsked};
 ghost use Rattle.esdk_batch.specs.ShelfCalls.{HasCalls, IsOfTurn, IsWrite};
 ghost use Rattle.esdk_batch.specs.Underway.{IsLiveAt, TakesTurn};
@@ -149,7 +150,7 @@ fn open_sealing<M: Manager, F: Shelf, W: Entropy>(
         → IsFrom by (F.state shelf.old)
         → SaysWithin M.state first last desk.old desk.new
         → job.work ≡ Encrypt asked.declared asked.frame asked.context asked.required
-        → job.to ≡ to.now → request.now ≡ request_of asked → Stands desk.old v
+        → job.to ≡ to.now → request.now ≡ job_request asked → Stands desk.old v
         → IfOk result (λ next. (w : DeskValue) × Stands desk.new w × TakesTurn
         (said_between (M.state first) (M.state last))
         job Waiting next v w (files_by by (F.state shelf.old)) (files_by by (F.state shelf.new))
@@ -162,7 +163,7 @@ fn open_sealing<M: Manager, F: Shelf, W: Entropy>(
         (W.state entropy.old) (W.state entropy.new)) }
     ensures lines { (job : Job) (asked : SealAsked) (v : DeskValue)
         → job.work ≡ Encrypt asked.declared asked.frame asked.context asked.required
-        → request.now ≡ request_of asked → Stands desk.old v → IfOk result
+        → request.now ≡ job_request asked → Stands desk.old v → IfOk result
         (λ next. (w : DeskValue) × Stands desk.new w × AddsLines job Waiting next v w) }
     ensures kind { (work : Work) → Seal ≡ kind_of work → IfOk result (λ next. HasKind work next) }
     ensures moment { GainsAt now (journal_of desk.old) (journal_of desk.new) }
@@ -290,7 +291,7 @@ fn make_file<M: Manager, F: Shelf>(
     ensures makes { (by : Watch) (v : DeskValue) (s : SessionValue) → IsFrom by (F.state shelf.old)
         → Stands desk.now v → v.live session ≡ Some s
         → MakesFile (files_by by (F.state shelf.old)) (files_by by (F.state shelf.new)) to.now
-        (header_of s) result }
+        (sealed_header s) result }
 {
     make(shelf, to)?;
     match desk.header(session) {

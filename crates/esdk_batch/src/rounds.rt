@@ -1,6 +1,7 @@
 //! The rounds of a batch.
 
-ghost use Rattle.std.specs.Prelude.{◌≡◌, ◌≤◌, ◌<◌, ◌+◌, ◌-◌, ◌^◌, ℕ, true, All, length, take, is_some, List, Some, OnErr, OnOk};
+ghost use Rattle.std.specs.Prelude.{◌≡◌, ◌≤◌, ◌<◌, ◌+◌, ◌-◌, ◌^◌, ℕ, true, All, length, take};
+ghost use Rattle.std.specs.Prelude.{is_some, List, Some, OnErr, OnOk};
 ghost use Rattle.esdk_base.specs.Streams.{ShelfState};
 ghost use Rattle.job_file.specs.JobFile.{IsWork};
 ghost use Rattle.desk_core.specs.Desk.{DeskValue};
@@ -8,12 +9,13 @@ ghost use Rattle.desk_core.specs.Stands.{IsWorth, Stands, manager_of, journal_of
 ghost use Rattle.keyring_trait.specs.Manager.{Went};
 ghost use Rattle.keyring_trait.specs.Saying.{said_between};
 ghost use Rattle.esdk_batch.specs.Batch.{OnlyWritten};
-ghost use Rattle.esdk_batch.specs.Failures.{AllCounted, Tally, tally_of};
+ghost use Rattle.esdk_batch.specs.Failures.{JobsCounted, Tally, tally_of};
 ghost use Rattle.esdk_batch.specs.Keeping.{IsBeyond, KeepsSessions};
 ghost use Rattle.esdk_batch.specs.Managing.{ManagerWent, SaysWithin};
 ghost use Rattle.esdk_batch.specs.Moments.{ReadsClock};
 ghost use Rattle.esdk_batch.specs.Progress.{IsFirstRunning, all_turns_left, is_ended};
-ghost use Rattle.esdk_batch.specs.Rounds.{FilesAreApart, AreReady, Beginning, HaveBegun, IsOpened, Stand, all_waits};
+ghost use Rattle.esdk_batch.specs.Rounds.{FilesAreApart, AreReady, Beginning, HaveBegun};
+ghost use Rattle.esdk_batch.specs.Rounds.{RoundIsBegun, Stand, all_waits};
 ghost use Rattle.esdk_batch.specs.ShelfCalls.{CallsAtMost, JobsCall};
 ghost use Rattle.esdk_batch.specs.Watching.{IsFrom, Watch, files_by};
 
@@ -45,7 +47,7 @@ pub(crate) fn run_rounds<M: Manager, F: Shelf, W: Entropy, C: Clock>(
     requires buffer { 0 < length buffer.old }
     requires room { last_of desk.old + all_waits progress.old ≤ 2 ^ 64 - 1 }
     requires ready { AreReady desk.old jobs.now progress.old }
-    requires opened { IsOpened width progress.old }
+    requires opened { RoundIsBegun width progress.old }
     requires still { Went (M.state (manager_of desk.old)) (M.state (manager_of desk.old)) }
     ensures ended { OnOk result (All (λ one. is_ended one ≡ true) progress.new) }
     ensures stand { (by : Watch) (start last : M) (began : Beginning) (v : DeskValue)
@@ -73,9 +75,9 @@ pub(crate) fn run_rounds<M: Manager, F: Shelf, W: Entropy, C: Clock>(
         → JobsCall jobs.now began (F.state shelf.old) progress.old
         → OnErr result (CallsAtMost jobs.now began (F.state shelf.new)) }
     ensures counts { (began : Tally)
-        → AllCounted jobs.now began (tally_of (F.state shelf.old) (W.state entropy.old).faults
+        → JobsCounted jobs.now began (tally_of (F.state shelf.old) (W.state entropy.old).faults
         (M.state (manager_of desk.old)).meaning.faults) progress.old
-        → OnOk result (AllCounted jobs.now began
+        → OnOk result (JobsCounted jobs.now began
         (tally_of (F.state shelf.new) (W.state entropy.new).faults
         (M.state (manager_of desk.new)).meaning.faults) progress.new) }
     ensures worth { IsWorth desk.new }
@@ -114,7 +116,7 @@ fn run_round<M: Manager, F: Shelf, W: Entropy, C: Clock>(
     requires buffer { 0 < length buffer.old }
     requires room { last_of desk.old + all_waits progress.old ≤ 2 ^ 64 - 1 }
     requires ready { AreReady desk.old jobs.now progress.old }
-    requires opened { IsOpened width progress.old }
+    requires opened { RoundIsBegun width progress.old }
     requires still { Went (M.state (manager_of desk.old)) (M.state (manager_of desk.old)) }
     ensures stand { (by : Watch) (start last : M) (began : Beginning) (v : DeskValue)
         → IsFrom by (F.state shelf.old)
@@ -142,9 +144,9 @@ fn run_round<M: Manager, F: Shelf, W: Entropy, C: Clock>(
         → JobsCall jobs.now began (F.state shelf.old) progress.old
         → OnErr result (CallsAtMost jobs.now began (F.state shelf.new)) }
     ensures counts { (began : Tally)
-        → AllCounted jobs.now began (tally_of (F.state shelf.old) (W.state entropy.old).faults
+        → JobsCounted jobs.now began (tally_of (F.state shelf.old) (W.state entropy.old).faults
         (M.state (manager_of desk.old)).meaning.faults) progress.old
-        → OnOk result (AllCounted jobs.now began
+        → OnOk result (JobsCounted jobs.now began
         (tally_of (F.state shelf.new) (W.state entropy.new).faults
         (M.state (manager_of desk.new)).meaning.faults) progress.new) }
     ensures worth { IsWorth desk.new }

@@ -1,6 +1,8 @@
 //! One turn of a job.
 
-ghost use Rattle.std.specs.Prelude.{◌≡◌, ◌≤◌, ◌<◌, ◌+◌, ◌-◌, ◌^◌, ℕ, true, false, length, List, IfOk, OnErr, OnOk};
+ghost use Rattle.std.specs.Prelude.{◌≡◌, ◌≤◌, ◌<◌, ◌+◌, ◌-◌, ◌^◌, ℕ, true, false, length, List};
+ghost use Rattle.std.specs.Prelude.{IfOk, OnErr, OnOk};
+ghost use Rattle.esdk_base.specs.Streams.{most_input};
 ghost use Rattle.job_file.specs.JobFile.{IsWork};
 ghost use Rattle.desk_core.specs.Desk.{DeskValue};
 ghost use Rattle.desk_core.specs.Stands.{IsWorth, Stands, manager_of, journal_of, last_of};
@@ -9,10 +11,12 @@ ghost use Rattle.keyring_trait.specs.Saying.{said_between};
 ghost use Rattle.esdk_batch.specs.Keeping.{IsBeyond, KeepsSessions};
 ghost use Rattle.esdk_batch.specs.Managing.{ManagerWent, SaysWithin};
 ghost use Rattle.esdk_batch.specs.Progress.{is_ended, turns_left};
-ghost use Rattle.esdk_batch.specs.Turns.{AddsLines, DrawsBytes, DrawsNumber, HasKind, Knows, either, waits};
-ghost use Rattle.esdk_batch.specs.Underway.{FurtherTurn, HasSession, IsLiveAt, IsReady, TakesTurn};
+ghost use Rattle.esdk_batch.specs.Turns.{AddsLines, DrawsBytes, DrawsNumber, HasKind, Knows};
+ghost use Rattle.esdk_batch.specs.Turns.{either, waits};
+ghost use Rattle.esdk_batch.specs.Underway.{FurtherTurn, JobHasSession, IsLiveAt, IsReady};
+ghost use Rattle.esdk_batch.specs.Underway.{TakesTurn};
 ghost use Rattle.esdk_batch.specs.Failures.{HasFile, TurnCounts, tally_of};
-ghost use Rattle.esdk_batch.specs.Files.{KeepsOthers, most_input};
+ghost use Rattle.esdk_batch.specs.Files.{KeepsOthers};
 ghost use Rattle.esdk_batch.specs.Moments.{GainsAt, TakesMoment};
 ghost use Rattle.esdk_batch.specs.ShelfCalls.{HasCalls, IsOfTurn, TurnCalls};
 ghost use Rattle.esdk_batch.specs.Watching.{IsFrom, Watch, files_by};
@@ -53,7 +57,7 @@ pub(crate) fn take_turn<M: Manager, F: Shelf, W: Entropy, C: Clock>(
     ensures turn { (by : Watch) (first last : M) (v : DeskValue)
         → IsFrom by (F.state shelf.old)
         → SaysWithin M.state first last desk.old desk.new
-        → Stands desk.old v → HasSession v.live progress.old
+        → Stands desk.old v → JobHasSession v.live progress.old
         → OnOk result ((w : DeskValue) × Stands desk.new w × TakesTurn
         (said_between (M.state first) (M.state last))
         job.now progress.old progress.new v w
@@ -122,7 +126,7 @@ fn go_on<M: Manager, F: Shelf>(
     ensures turn { (by : Watch) (first last : M) (v : DeskValue)
         → IsFrom by (F.state shelf.old)
         → SaysWithin M.state first last desk.old desk.new
-        → Stands desk.old v → HasSession v.live (stages.Live live)
+        → Stands desk.old v → JobHasSession v.live (stages.Live live)
         → IfOk result (λ next. (w : DeskValue) × Stands desk.new w × FurtherTurn
         (said_between (M.state first) (M.state last))
         job.now live next v w (files_by by (F.state shelf.old)) (files_by by (F.state shelf.new))) }

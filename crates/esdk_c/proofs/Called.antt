@@ -5,12 +5,12 @@ use Rattle.c_session.specs.declared.answer.Answer.{Answer}
 use Rattle.c_session.specs.declared.file_session.FileSession.{FileSession}
 use Rattle.c_session.specs.declared.file_session.Kept.{Kept}
 use Rattle.esdk_c.specs.declared.handle.Handle.{Handle}
-use Rattle.esdk_c.specs.Calls.{CalledSo, CallsSession, GoesOn, HandsOutBy}
-use Rattle.esdk_c.specs.Handle.{Holds}
+use Rattle.esdk_c.specs.Calls.{CalledSo, CallsSession, CallGoesOn, HandsOutBy}
+use Rattle.esdk_c.specs.Handle.{HoldsSession}
 
 -- it held this session
 pub called_so : (old new : Handle) (code : ℤ) (call : Answer → Kept → Kept → Type 0) (taken : FileSession)
-    → Holds old taken → CalledSo new code call taken → CallsSession old new code call
+    → HoldsSession old taken → CalledSo new code call taken → CallsSession old new code call
 called_so old new code call taken holds so = record {
   closed = λ off. absurd (let no : true ≡ false = sym holds.0 ∙ off in cc);
   called = λ session same.
@@ -25,7 +25,7 @@ pub goes_on : (new : Handle) (code : ℤ) (first : Answer → Kept → Kept → 
     (taken between : FileSession) → first answer taken.kept between.kept
     → CalledSo new code (λ given s t. (given ≡ answer) × HandsOutBy silent s t room written waits after) between
     → silent ≡ quiet answer
-    → CalledSo new code (λ given s t. GoesOn (λ b. first given s b) (quiet given) t room written waits after) taken
+    → CalledSo new code (λ given s t. CallGoesOn (λ b. first given s b) (quiet given) t room written waits after) taken
 goes_on new code first quiet room written waits after answer silent taken between did so same = record {
   answer = so.answer;
   after = so.after;

@@ -3,11 +3,11 @@ use Rattle.std.specs.Prelude.{◌≡◌, ℕ, ℤ, pos, Bool, false, List, Resul
 use Rattle.c_session.specs.declared.file_session.FileSession.{FileSession}
 use Rattle.c_session.specs.declared.file_session.Kept.{Kept}
 use Rattle.c_session.specs.declared.reason.Reason.{Reason}
-use Rattle.c_session.specs.Front.{ListsFront}
-use Rattle.c_session.specs.Reason.{code_of}
+use Rattle.c_session.specs.Front.{ListsHeaderFront}
+use Rattle.c_session.specs.Reason.{code_of_reason}
 use Rattle.c_session.specs.Telling.{Shows}
 use Rattle.esdk_c.specs.declared.handle.Handle.{Handle}
-use Rattle.esdk_c.specs.Handle.{Holds}
+use Rattle.esdk_c.specs.Handle.{HoldsSession}
 
 -- What came is shown, and the code is 0. Or nothing came: the code says why, the number is 0, and
 -- the room is as it was.
@@ -20,16 +20,16 @@ ShowsAll code_of (Err error) room code whole after =
 pub record ListsInto (uncommitted : Bool) (message room : List ℕ) (code : ℤ) (whole : ℕ)
     (after : List ℕ) : Type 0 where
   pub came : Result (List ℕ) Reason
-  pub lists : ListsFront uncommitted message came
-  pub shows : ShowsAll code_of came room code whole after
+  pub lists : ListsHeaderFront uncommitted message came
+  pub shows : ShowsAll code_of_reason came room code whole after
 
--- The handle holds the session that this one is behind the question. What came of it is shown, or it
--- is told why nothing did.
+-- The handle holds the session that this one is behind the question. What came of it is shown, or
+-- it is told why nothing did.
 pub record AskedSo {E : Type 0} (new : Handle) (code_of : E → ℕ)
     (asks : Kept → Kept → Result (List ℕ) E → Type 0) (room : List ℕ) (code : ℤ) (whole : ℕ)
     (after : List ℕ) (session : FileSession) : Type 0 where
   pub left : FileSession
-  pub holds : Holds new left
+  pub holds : HoldsSession new left
   pub came : Result (List ℕ) E
   pub asked : asks session.kept left.kept came
   pub shows : ShowsAll code_of came room code whole after
@@ -40,5 +40,5 @@ pub record AsksHandle {E : Type 0} (old new : Handle) (code_of : E → ℕ)
     (asks : Kept → Kept → Result (List ℕ) E → Type 0) (room : List ℕ) (code : ℤ) (whole : ℕ)
     (after : List ℕ) : Type 0 where
   pub closed : old.live ≡ false → (code ≡ pos 2001) × (new ≡ old) × (whole ≡ 0) × (after ≡ room)
-  pub asked : (session : FileSession) → Holds old session
+  pub asked : (session : FileSession) → HoldsSession old session
       → AskedSo new code_of asks room code whole after session

@@ -1,18 +1,20 @@
 -- What an export comes to: of a handle that holds a session, what the session's call comes to.
-use Rattle.std.specs.Prelude.{◌≡◌, ◌⊎◌, ℕ, ℤ, pos, negsuc, Bool, true, false, List, length, Option, None, Some}
+use Rattle.std.specs.Prelude.{◌≡◌, ◌⊎◌, ℕ, ℤ, pos, negsuc, Bool, true, false, List, length, Option}
+use Rattle.std.specs.Prelude.{None, Some}
 use Rattle.c_session.specs.declared.answer.Answer.{Answer}
 use Rattle.c_session.specs.declared.file_session.FileSession.{FileSession}
 use Rattle.c_session.specs.declared.file_session.Kept.{Kept}
-use Rattle.c_session.specs.FileSession.{ReadsFile, TakesKept, answer_code, first_answer, reason_kept, waiting_in}
+use Rattle.c_session.specs.FileSession.{SessionReadsFile, TakesKept, answer_code, first_answer}
+use Rattle.c_session.specs.FileSession.{reason_kept, waiting_in}
 use Rattle.esdk_c.specs.declared.handle.Handle.{Handle}
-use Rattle.esdk_c.specs.Handle.{Holds, HoldsNone}
+use Rattle.esdk_c.specs.Handle.{HoldsSession, HoldsNoSession}
 
 -- The handle holds a session that this one became by the call, and the code is its answer's.
 pub record CalledSo (new : Handle) (code : ℤ) (call : Answer → Kept → Kept → Type 0)
     (session : FileSession) : Type 0 where
   pub answer : Answer
   pub after : FileSession
-  pub holds : Holds new after
+  pub holds : HoldsSession new after
   pub told : code ≡ pos (answer_code answer (reason_kept after.kept))
   pub called : call answer session.kept after.kept
 
@@ -21,7 +23,7 @@ pub record CalledSo (new : Handle) (code : ℤ) (call : Answer → Kept → Kept
 pub record CallsSession (old new : Handle) (code : ℤ) (call : Answer → Kept → Kept → Type 0)
     : Type 0 where
   pub closed : old.live ≡ false → (code ≡ pos 2001) × (new ≡ old)
-  pub called : (session : FileSession) → Holds old session → CalledSo new code call session
+  pub called : (session : FileSession) → HoldsSession old session → CalledSo new code call session
 
 -- ---- a new session
 
@@ -29,9 +31,9 @@ pub record CallsSession (old new : Handle) (code : ℤ) (call : Answer → Kept 
 -- that of its first answer; or it holds none, since memory ran out.
 abbrev pub MakesSession : List ℕ → Handle → ℤ → Type 0
 MakesSession file new code =
-    ((session : FileSession) × Holds new session × ReadsFile file session.kept
+    ((session : FileSession) × HoldsSession new session × SessionReadsFile file session.kept
     × (code ≡ pos (answer_code (first_answer session.kept) (reason_kept session.kept))))
-    ⊎ (HoldsNone new × (code ≡ pos 5000))
+    ⊎ (HoldsNoSession new × (code ≡ pos 5000))
 
 -- ---- what is handed out
 
@@ -47,7 +49,7 @@ pub record HandsOutBy (silent : Bool) (old new : Kept) (room : List ℕ) (writte
   pub left : waits ≡ length (waiting_in new)
 
 -- The session became another by the call, and of what waited then so much was handed out.
-pub record GoesOn (call : Kept → Type 0) (silent : Bool) (new : Kept) (room : List ℕ)
+pub record CallGoesOn (call : Kept → Type 0) (silent : Bool) (new : Kept) (room : List ℕ)
     (written waits : ℕ) (after : List ℕ) : Type 0 where
   pub between : Kept
   pub called : call between
@@ -63,7 +65,8 @@ HandsNothing room written waits after = (written ≡ 0) × (waits ≡ 0) × (aft
 -- that is told.
 pub record Tells (old new : Handle) (tells : Kept → Type 0) (none : Type 0) : Type 0 where
   pub closed : old.live ≡ false → (new ≡ old) × none
-  pub told : (session : FileSession) → Holds old session → Holds new session × tells session.kept
+  pub told : (session : FileSession) → HoldsSession old session
+      → HoldsSession new session × tells session.kept
 
 -- a number, or -1 where there is none
 abbrev pub number_or : Option ℕ → ℤ

@@ -5,14 +5,14 @@ use Rattle.c_session.specs.declared.file_session.FileSession.{FileSession}
 use Rattle.esdk_c.specs.declared.handle.Handle.{Handle}
 
 -- the handle holds this session
-abbrev pub Holds : Handle → FileSession → Type 0
-Holds handle session = (handle.live ≡ true) × (handle.held.home ≡ Some session)
+abbrev pub HoldsSession : Handle → FileSession → Type 0
+HoldsSession handle session = (handle.live ≡ true) × (handle.held.home ≡ Some session)
 
 -- the handle holds no session
-abbrev pub HoldsNone : Handle → Type 0
-HoldsNone handle = (handle.live ≡ false) × (handle.held.home ≡ None)
+abbrev pub HoldsNoSession : Handle → Type 0
+HoldsNoSession handle = (handle.live ≡ false) × (handle.held.home ≡ None)
 
 -- the session was taken out, where there was one
-abbrev pub Takes : Handle → Option (Box FileSession) → Handle → Type 0
-Takes old None new = HoldsNone old × (new ≡ old)
-Takes old (Some session) new = Holds old session.value × HoldsNone new
+abbrev pub TakesSession : Handle → Option (Box FileSession) → Handle → Type 0
+TakesSession old None new = HoldsNoSession old × (new ≡ old)
+TakesSession old (Some session) new = HoldsSession old session.value × HoldsNoSession new

@@ -2,11 +2,11 @@
 
 ghost use Rattle.std.specs.Prelude.{◌≡◌, false, not, pos};
 ghost use Rattle.c_session.specs.declared.answer.Answer.TheVariants.{Done};
-ghost use Rattle.c_session.specs.Answer.{is_callers, is_done};
+ghost use Rattle.c_session.specs.Answer.{is_callers, is_done_answer};
 ghost use Rattle.c_session.specs.FileSession.{KeepsRead, file_state};
-ghost use Rattle.c_session.specs.Session.{Ends, EndsWith, Feeds};
-ghost use Rattle.esdk_c.specs.Calls.{CalledSo, CallsSession, GoesOn, HandsNothing, HandsOutBy};
-ghost use Rattle.esdk_c.specs.Handle.{HoldsNone};
+ghost use Rattle.c_session.specs.Session.{SessionEnds, EndsWith, SessionFeeds};
+ghost use Rattle.esdk_c.specs.Calls.{CalledSo, CallsSession, CallGoesOn, HandsNothing, HandsOutBy};
+ghost use Rattle.esdk_c.specs.Handle.{HoldsNoSession};
 
 use crate::handle::Handle;
 use crate::taking::{NO_SESSION, give_back};
@@ -24,8 +24,9 @@ pub extern "C" fn esdk_feed(
     waits: &mut usize,
 ) -> i32
     ensures feeds { CallsSession handle.old handle.new result (λ answer old new.
-        GoesOn (λ between. KeepsRead old between answer (λ s t.
-        Feeds file_state s t piece.now answer)) (is_callers answer) new room.old written.new waits.new
+        CallGoesOn (λ between. KeepsRead old between answer (λ s t.
+        SessionFeeds file_state s t piece.now answer)) (is_callers answer) new room.old written.new
+        waits.new
         room.new) }
     ensures closed { handle.old.live ≡ false
         → HandsNothing room.old written.new waits.new room.new }
@@ -48,7 +49,8 @@ pub extern "C" fn esdk_finish(
     waits: &mut usize,
 ) -> i32
     ensures ends { CallsSession handle.old handle.new result (λ answer old new.
-        GoesOn (λ between. KeepsRead old between answer (λ s t. Ends file_state s t answer))
+        CallGoesOn (λ between. KeepsRead old between answer
+        (λ s t. SessionEnds file_state s t answer))
         (is_callers answer) new room.old written.new waits.new room.new) }
     ensures closed { handle.old.live ≡ false
         → HandsNothing room.old written.new waits.new room.new }
@@ -73,8 +75,9 @@ pub extern "C" fn esdk_whole(
     waits: &mut usize,
 ) -> i32
     ensures ends { CallsSession handle.old handle.new result (λ answer old new.
-        GoesOn (λ between. KeepsRead old between answer (λ s t.
-        EndsWith file_state s t rest.now answer)) (not (is_done answer)) new room.old written.new
+        CallGoesOn (λ between. KeepsRead old between answer (λ s t.
+        EndsWith file_state s t rest.now answer)) (not (is_done_answer answer)) new room.old
+        written.new
         waits.new room.new) }
     ensures closed { handle.old.live ≡ false
         → HandsNothing room.old written.new waits.new room.new }
@@ -138,7 +141,7 @@ fn hand_out(
     written: &mut usize,
     waits: &mut usize,
 ) -> i32
-    requires { HoldsNone handle.old }
+    requires { HoldsNoSession handle.old }
     ensures { CalledSo handle.new result (λ given old new. (given ≡ answer)
         × HandsOutBy silent old new room.old written.new waits.new room.new) session.value }
 {

@@ -2,10 +2,10 @@
 
 ghost use Rattle.std.specs.Prelude.{◌≡◌, ◌-◌, ◌^◌};
 ghost use Rattle.c_session.specs.FileSession.{Again, KeepsRead, drawn_by, file_state};
-ghost use Rattle.c_session.specs.Limits.{limits_of, some_unless};
+ghost use Rattle.c_session.specs.Limits.{reader_settings, some_unless};
 ghost use Rattle.c_session.specs.Session.{BeginsOpening, BeginsSealing, PairsAs, RequiresAs};
 ghost use Rattle.esdk_c.specs.Calls.{CallsSession, MakesSession, Tells};
-ghost use Rattle.esdk_c.specs.Handle.{HoldsNone};
+ghost use Rattle.esdk_c.specs.Handle.{HoldsNoSession};
 
 use crate::handle::Handle;
 use crate::taking::{NO_SESSION, give_back};
@@ -43,7 +43,7 @@ pub extern "C" fn esdk_new(alloc: Global, handle: &mut Handle, file: &[u8]) -> i
 /// Frees what the handle holds.
 #[unsafe(no_mangle)]
 pub extern "C" fn esdk_close(_alloc: Global, handle: &mut Handle)
-    ensures { HoldsNone handle.new }
+    ensures { HoldsNoSession handle.new }
 {
     let _session = handle.take();
 }
@@ -134,7 +134,7 @@ pub extern "C" fn esdk_open(
 ) -> i32
     ensures { CallsSession handle.old handle.new result (λ answer old new.
         KeepsRead old new answer (λ s t. BeginsOpening file_state s t
-        (limits_of max_keys max_unit uncommitted) answer)) }
+        (reader_settings max_keys max_unit uncommitted) answer)) }
 {
     let Some(mut session) = handle.take() else {
         return NO_SESSION;

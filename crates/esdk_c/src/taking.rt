@@ -2,7 +2,7 @@
 
 ghost use Rattle.std.specs.Prelude.{◌≡◌, pos};
 ghost use Rattle.c_session.specs.FileSession.{answer_code, reason_kept};
-ghost use Rattle.esdk_c.specs.Handle.{Holds, HoldsNone, Takes};
+ghost use Rattle.esdk_c.specs.Handle.{HoldsSession, HoldsNoSession, TakesSession};
 
 use crate::handle::Handle;
 use crate::held::Held;
@@ -16,7 +16,7 @@ pub(crate) const NO_SESSION: i32 = 2001;
 impl Handle {
     /// The session, where it holds one. It holds none then.
     pub(crate) fn take(&mut self) -> Option<Box<FileSession>>
-        ensures { Takes self.old result self.new }
+        ensures { TakesSession self.old result self.new }
     {
         if !self.live {
             return None;
@@ -32,8 +32,8 @@ impl Handle {
 
     /// The handle holds this session. It held none before.
     pub(crate) fn put(&mut self, alloc: Global, session: Box<FileSession>)
-        requires { HoldsNone self.old }
-        ensures { Holds self.new session.value }
+        requires { HoldsNoSession self.old }
+        ensures { HoldsSession self.new session.value }
     {
         *self = Handle {
             held: Held::of(session),
@@ -50,8 +50,8 @@ pub(crate) fn give_back(
     session: Box<FileSession>,
     answer: Answer,
 ) -> i32
-    requires { HoldsNone handle.old }
-    ensures holds { Holds handle.new session.value }
+    requires { HoldsNoSession handle.old }
+    ensures holds { HoldsSession handle.new session.value }
     ensures code { result ≡ pos (answer_code answer (reason_kept session.value.kept)) }
 {
     let code = session.code(answer) as i32;

@@ -13,7 +13,7 @@ use Rattle.esdk_base.specs.Streams.{SinkState, SourceState}
 use Rattle.context_codec.specs.Context.{KeyValue}
 use Rattle.header_codec.specs.declared.settings.Settings.{Settings}
 use Rattle.header_codec.specs.Header.{HeaderValue}
-use Rattle.header_codec.specs.Table.{Head, head, header}
+use Rattle.header_codec.specs.Table.{HeaderFields, head, header}
 use Rattle.header_codec.proofs.Order.{IsSequential-header}
 use Rattle.keyring_trait.specs.declared.manager_errors.ManagerError.TheVariants.{KeyringFault}
 use Rattle.keyring_trait.specs.Saying.{Saying}
@@ -29,7 +29,7 @@ use Rattle.stream_open.specs.Session.{OpeningValue, answer_kept, is_faulty, judg
 use Rattle.whole_input.specs.Pieces.{most_piece}
 use Rattle.whole_input.specs.Taken.{Came}
 use Rattle.whole_input.specs.Written.{WritesBeyond}
-use Rattle.esdk_decrypt.specs.Decrypt.{Answering, AnswersReading, AnswersRequest, AnswersTo, Asked, FailsReading, FailsTo, ReleasesBeyond, ReleasesFront, answers_at, fault_of}
+use Rattle.esdk_decrypt.specs.Decrypt.{Answering, AnswersReading, AnswersRequest, AnswersTo, DecryptAsked, FailsReading, FailsTo, ReleasesBeyond, ReleasesFront, answers_at, fault_of}
 
 -- ---- what is kept
 
@@ -40,11 +40,11 @@ pub record Answered (manager : Answering) (settings : Settings) (given : List Ke
   pub same : judged b settings answer ≡ j
   pub keeps : IfSome kept (λ a. answer ≡ a)
 
-answered_read : (manager : Answering) (settings : Settings) (given : List KeyValue) (b : List ℕ) (answer : Unlocking) (parts : Head) (p : Place) → header settings (start b) ≡ Read parts p
+answered_read : (manager : Answering) (settings : Settings) (given : List KeyValue) (b : List ℕ) (answer : Unlocking) (parts : HeaderFields) (p : Place) → header settings (start b) ≡ Read parts p
     → AnswersRequest manager (request_of given (header_of b parts)) answer → Answered manager settings given b (judged b settings answer) (Some answer)
 answered_read manager settings given b answer parts p e answers = record {
   answer = answer;
-  answered = subst (λ (r : Reading Head). AnswersReading manager given b r answer) (sym e) answers;
+  answered = subst (λ (r : Reading HeaderFields). AnswersReading manager given b r answer) (sym e) answers;
   same = refl;
   keeps = refl;
 }
@@ -52,20 +52,20 @@ answered_read manager settings given b answer parts p e answers = record {
 none_kept : (a : Unlocking) (kept : Option Unlocking) → kept ≡ None → IfSome kept (λ k. a ≡ k)
 none_kept a kept none = subst (λ (o : Option Unlocking). IfSome o (λ k. a ≡ k)) (sym none) tt
 
-answered_by : (manager : Saying) (now : ℕ) (settings : Settings) (given : List KeyValue) (b : List ℕ) (kept : Option Unlocking) (r : Reading Head) → header settings (start b) ≡ r
+answered_by : (manager : Saying) (now : ℕ) (settings : Settings) (given : List KeyValue) (b : List ℕ) (kept : Option Unlocking) (r : Reading HeaderFields) → header settings (start b) ≡ r
     → KeepsAnswer manager now given (option_map (header_of b) (value_of r)) kept → Answered (answers_at manager now) settings given b (judged b settings (answer_kept kept)) kept
 answered_by manager now settings given b None (Read parts p) e keeps = absurd keeps
 answered_by manager now settings given b (Some (Unlocks whole only key)) (Read parts p) e keeps = answered_read (answers_at manager now) settings given b (Unlocks whole only key) parts p e keeps
 answered_by manager now settings given b (Some (Refuses fault)) (Read parts p) e keeps = answered_read (answers_at manager now) settings given b (Refuses fault) parts p e keeps
 answered_by manager now settings given b kept (Refused fault at) e keeps = record {
   answer = Refuses fault;
-  answered = subst (λ (r : Reading Head). AnswersReading (answers_at manager now) given b r (Refuses fault)) (sym e) refl;
+  answered = subst (λ (r : Reading HeaderFields). AnswersReading (answers_at manager now) given b r (Refuses fault)) (sym e) refl;
   same = judged_refused b settings (Refuses fault) fault at e ∙ sym (judged_refused b settings (answer_kept kept) fault at e);
   keeps = none_kept (Refuses fault) kept keeps;
 }
 answered_by manager now settings given b kept Wanting e keeps = record {
   answer = Refuses Truncated;
-  answered = subst (λ (r : Reading Head). AnswersReading (answers_at manager now) given b r (Refuses Truncated)) (sym e) refl;
+  answered = subst (λ (r : Reading HeaderFields). AnswersReading (answers_at manager now) given b r (Refuses Truncated)) (sym e) refl;
   same = judged_wanting b settings (Refuses Truncated) e ∙ sym (judged_wanting b settings (answer_kept kept) e);
   keeps = none_kept (Refuses Truncated) kept keeps;
 }
@@ -76,9 +76,9 @@ answered_kept manager now settings given b kept keeps = answered_by manager now 
 
 -- ---- a failure
 
-fails_at : (manager : Answering) (given : List KeyValue) (b : List ℕ) (r : Reading Head) (parts : Head) → value_of r ≡ Some parts
+fails_at : (manager : Answering) (given : List KeyValue) (b : List ℕ) (r : Reading HeaderFields) (parts : HeaderFields) → value_of r ≡ Some parts
     → manager.finds_none (request_of given (header_of b parts)) KeyringFault → FailsReading manager given b r
-fails_at manager given b (Read other p) parts e failed = subst (λ (h : Head). manager.finds_none (request_of given (header_of b h)) KeyringFault) (sym (same e)) failed
+fails_at manager given b (Read other p) parts e failed = subst (λ (h : HeaderFields). manager.finds_none (request_of given (header_of b h)) KeyringFault) (sym (same e)) failed
   where
     same : Some other ≡ Some parts → other ≡ parts
     same e = cc
@@ -86,14 +86,14 @@ fails_at manager given b (Refused fault at) parts e failed = absurd (let no : No
 fails_at manager given b Wanting parts e failed = absurd (let no : None ≡ Some parts = e in cc)
 
 -- the manager failed about the header that is whole in these bytes
-pub fails_whole : (manager : Answering) (settings : Settings) (given : List KeyValue) (b : List ℕ) (h : HeaderValue) (parts : Head) → value_of (header settings (start b)) ≡ Some parts → h ≡ header_of b parts
+pub fails_whole : (manager : Answering) (settings : Settings) (given : List KeyValue) (b : List ℕ) (h : HeaderValue) (parts : HeaderFields) → value_of (header settings (start b)) ≡ Some parts → h ≡ header_of b parts
     → manager.finds_none (request_of given h) KeyringFault → FailsTo manager settings given b
 fails_whole manager settings given b h parts whole is failed =
     fails_at manager given b (header settings (start b)) parts whole (subst (λ (g : HeaderValue). manager.finds_none (request_of given g) KeyringFault) is failed)
 
 -- ---- no whole header
 
-nothing_by : (settings : Settings) (b : List ℕ) (answer : Unlocking) (r : Reading Head) → header settings (start b) ≡ r → value_of r ≡ None → content (judged b settings answer) ≡ []
+nothing_by : (settings : Settings) (b : List ℕ) (answer : Unlocking) (r : Reading HeaderFields) → header settings (start b) ≡ r → value_of r ≡ None → content (judged b settings answer) ≡ []
 nothing_by settings b answer (Read parts p) e none = absurd (let no : Some parts ≡ None = none in cc)
 nothing_by settings b answer (Refused fault at) e none = ap content (judged_refused b settings answer fault at e)
 nothing_by settings b answer Wanting e none = ap content (judged_wanting b settings answer e)
@@ -103,7 +103,7 @@ pub nothing_unread : (settings : Settings) (b : List ℕ) (answer : Unlocking) �
 nothing_unread settings b answer none = nothing_by settings b answer (header settings (start b)) refl none
 
 -- and no answer plays a part in how the bytes are judged
-any_by : (settings : Settings) (b : List ℕ) (one other : Unlocking) (r : Reading Head) → header settings (start b) ≡ r → value_of r ≡ None → judged b settings one ≡ judged b settings other
+any_by : (settings : Settings) (b : List ℕ) (one other : Unlocking) (r : Reading HeaderFields) → header settings (start b) ≡ r → value_of r ≡ None → judged b settings one ≡ judged b settings other
 any_by settings b one other (Read parts p) e none = absurd (let no : Some parts ≡ None = none in cc)
 any_by settings b one other (Refused fault at) e none = judged_refused b settings one fault at e ∙ sym (judged_refused b settings other fault at e)
 any_by settings b one other Wanting e none = judged_wanting b settings one e ∙ sym (judged_wanting b settings other e)
@@ -119,7 +119,7 @@ sound_none Whole e = refl
 sound_none (Faulty fault) e = absurd cc
 
 -- a session that goes on and keeps no answer wants bytes of the header
-wanting_by : (v : OpeningValue) (r : Reading Head) → header v.settings (start v.taken) ≡ r → GoesOn v → v.answer ≡ None → header v.settings (start v.taken) ≡ Wanting
+wanting_by : (v : OpeningValue) (r : Reading HeaderFields) → header v.settings (start v.taken) ≡ r → GoesOn v → v.answer ≡ None → header v.settings (start v.taken) ≡ Wanting
 wanting_by v (Read parts p) e goes none = absurd (let no : Some parts ≡ None = sym (ap value_of e) ∙ goes.unheard none in cc)
 wanting_by v (Refused fault at) e goes none =
     absurd (let no : true ≡ false = sym (ap (λ (j : Judged). is_faulty j.verdict) (judged_refused v.taken v.settings (answer_kept v.answer) fault at e)) ∙ goes.sound in cc)
@@ -148,22 +148,22 @@ sound_before v j goes same = ap (λ (k : Judged). fault_of k.verdict) same ∙ s
 -- ---- when more bytes follow
 
 -- the answer to a header stays the answer
-answers_on : (manager : Answering) (settings : Settings) (given : List KeyValue) (b more : List ℕ) (answer : Unlocking) (parts : Head) (p : Place) → header settings (start b) ≡ Read parts p
+answers_on : (manager : Answering) (settings : Settings) (given : List KeyValue) (b more : List ℕ) (answer : Unlocking) (parts : HeaderFields) (p : Place) → header settings (start b) ≡ Read parts p
     → AnswersTo manager settings given b answer → AnswersTo manager settings given (b ++ more) answer
 answers_on manager settings given b more answer parts p e answers =
     let on : header settings (start (b ++ more)) ≡ Read parts (followed p more) = value_stays (header settings) b more parts p (IsSequential-header settings) e in
-    subst (λ (r : Reading Head). AnswersReading manager given (b ++ more) r answer) (sym on)
+    subst (λ (r : Reading HeaderFields). AnswersReading manager given (b ++ more) r answer) (sym on)
     (subst (λ (h : HeaderValue). AnswersRequest manager (request_of given h) answer) (sym (header_stays settings b more parts p e))
-    (subst (λ (r : Reading Head). AnswersReading manager given b r answer) e answers))
+    (subst (λ (r : Reading HeaderFields). AnswersReading manager given b r answer) e answers))
 
 -- and was it before
-pub answers_before : (manager : Answering) (settings : Settings) (given : List KeyValue) (b more : List ℕ) (answer : Unlocking) (parts : Head) (p : Place) → header settings (start b) ≡ Read parts p
+pub answers_before : (manager : Answering) (settings : Settings) (given : List KeyValue) (b more : List ℕ) (answer : Unlocking) (parts : HeaderFields) (p : Place) → header settings (start b) ≡ Read parts p
     → AnswersTo manager settings given (b ++ more) answer → AnswersTo manager settings given b answer
 answers_before manager settings given b more answer parts p e answers =
     let on : header settings (start (b ++ more)) ≡ Read parts (followed p more) = value_stays (header settings) b more parts p (IsSequential-header settings) e in
-    subst (λ (r : Reading Head). AnswersReading manager given b r answer) (sym e)
+    subst (λ (r : Reading HeaderFields). AnswersReading manager given b r answer) (sym e)
     (subst (λ (h : HeaderValue). AnswersRequest manager (request_of given h) answer) (header_stays settings b more parts p e)
-    (subst (λ (r : Reading Head). AnswersReading manager given (b ++ more) r answer) on answers))
+    (subst (λ (r : Reading HeaderFields). AnswersReading manager given (b ++ more) r answer) on answers))
 
 -- and what is released goes on
 content_on : (settings : Settings) (b more : List ℕ) (answer : Unlocking) → (added : List ℕ) × (content (judged (b ++ more) settings answer) ≡ content (judged b settings answer) ++ added)
@@ -183,7 +183,7 @@ beyond_more output put first all added writes = record {
 }
 
 -- what was written beyond what some bytes release, while others behind them were judged, when more follow
-front_read : (asked : Asked) (input taken : SourceState) (output put : SinkState) (first piece b more : List ℕ) (answer : Unlocking) (parts : Head) (p : Place) → header asked.settings (start b) ≡ Read parts p
+front_read : (asked : DecryptAsked) (input taken : SourceState) (output put : SinkState) (first piece b more : List ℕ) (answer : Unlocking) (parts : HeaderFields) (p : Place) → header asked.settings (start b) ≡ Read parts p
     → AnswersTo asked.manager asked.settings asked.given b answer → Came input taken (b ++ more) → taken.faults ≡ input.faults → b ++ more ≡ first ++ piece → length piece ≤ most_piece
     → ReleasesBeyond asked.settings answer output put b first → ReleasesFront asked input taken output put
 front_read asked input taken output put first piece b more answer parts p e answered came faults all few beyond =
@@ -213,7 +213,7 @@ none_beyond settings answer output put b first beyond none =
     let first_content : List ℕ = content (judged first settings answer) in
     omega (arith, beyond.written.some, ap length (sym none ∙ beyond.written.is), length-append first_content beyond.written.more)
 
-front_by : (asked : Asked) (input taken : SourceState) (output put : SinkState) (first piece b more : List ℕ) (answer : Unlocking) (r : Reading Head) → header asked.settings (start b) ≡ r
+front_by : (asked : DecryptAsked) (input taken : SourceState) (output put : SinkState) (first piece b more : List ℕ) (answer : Unlocking) (r : Reading HeaderFields) → header asked.settings (start b) ≡ r
     → AnswersTo asked.manager asked.settings asked.given b answer → Came input taken (b ++ more) → taken.faults ≡ input.faults → b ++ more ≡ first ++ piece → length piece ≤ most_piece
     → ReleasesBeyond asked.settings answer output put b first → ReleasesFront asked input taken output put
 front_by asked input taken output put first piece b more answer (Read parts p) e answered came faults all few beyond =
@@ -223,7 +223,7 @@ front_by asked input taken output put first piece b more answer (Refused fault a
 front_by asked input taken output put first piece b more answer Wanting e answered came faults all few beyond =
     absurd (none_beyond asked.settings answer output put b first beyond (nothing_by asked.settings b answer Wanting e refl))
 
-pub front_released : (asked : Asked) (input taken : SourceState) (output put : SinkState) (first piece b more : List ℕ) (answer : Unlocking)
+pub front_released : (asked : DecryptAsked) (input taken : SourceState) (output put : SinkState) (first piece b more : List ℕ) (answer : Unlocking)
     → AnswersTo asked.manager asked.settings asked.given b answer → Came input taken (b ++ more) → taken.faults ≡ input.faults → b ++ more ≡ first ++ piece → length piece ≤ most_piece
     → ReleasesBeyond asked.settings answer output put b first → ReleasesFront asked input taken output put
 front_released asked input taken output put first piece b more answer answered came faults all few beyond =

@@ -7,14 +7,15 @@ use Rattle.std.proofs.lemmas.List.{length-drop, take-append-drop}
 use Rattle.esdk_fields.specs.declared.faults.Fault.{Fault}
 use Rattle.esdk_fields.specs.declared.refusals.Outside.TheVariants as outsides
 use Rattle.esdk_fields.specs.Place.{start}
-use Rattle.esdk_fields.specs.Reading.{Reading, Read, Refused, Wanting, fault_of as fault_in, value_of}
+use Rattle.esdk_fields.specs.Reading.{Reading, Read, Refused, Wanting, reading_fault as fault_in, value_of}
 use Rattle.esdk_base.specs.declared.receiver.FeedError.{FeedError}
 use Rattle.esdk_base.specs.declared.receiver.FeedError.TheVariants as feeds
 use Rattle.esdk_base.specs.Streams.{SinkState, SourceState}
+use Rattle.esdk_base.specs.Receiver.{PutsAll}
 use Rattle.context_codec.specs.Context.{KeyValue}
 use Rattle.header_codec.specs.declared.settings.Settings.{Settings}
 use Rattle.header_codec.specs.Header.{HeaderValue}
-use Rattle.header_codec.specs.Table.{Head, head, header, header_fault}
+use Rattle.header_codec.specs.Table.{HeaderFields, head, header, header_fault}
 use Rattle.keyring_trait.specs.Manager.{ManagerNow}
 use Rattle.keyring_trait.specs.Saying.{said_last}
 use Rattle.keyring_trait.specs.Unlocking.{Unlocking}
@@ -24,8 +25,8 @@ use Rattle.stream_open.specs.declared.errors.OpenError.TheVariants as opens
 use Rattle.stream_open.specs.declared.session.Opener.{Opener}
 use Rattle.stream_open.specs.Asking.{Heard, Failed, IsHeard, served_in}
 use Rattle.stream_open.specs.Feeding.{GoesOn, KeepsAnswer, header_in, judged_all}
-use Rattle.stream_open.specs.Receiving.{FedShort, FedTo, FedUntil, FedWhole, FeedsPiece}
-use Rattle.stream_open.specs.Session.{MayRunOut, OpeningValue, answer_kept, asked_header, is_framed, judged_now, keeping, new_session}
+use Rattle.stream_open.specs.Receiving.{FedShort, FedTo, FedUntil, FedWhole, FeedsOpenerPiece}
+use Rattle.stream_open.specs.Session.{MayRunOut, OpeningValue, answer_kept, asked_header, is_framed, judged_now, keeping, new_opening_session}
 use Rattle.stream_open.proofs.FedPieces.{Joins, joins, keeps_some}
 use Rattle.stream_open.proofs.Feeding.{asks_about, kept_answer, may_hear, opened_goes, runs_out_before}
 use Rattle.stream_open.proofs.Keeping.{header_on}
@@ -36,52 +37,52 @@ use Rattle.whole_input.specs.Written.{WritesBeyond}
 use Rattle.whole_input.proofs.Fronts.{beyond_after}
 use Rattle.esdk_decrypt.specs.declared.errors.DecryptError.{DecryptError}
 use Rattle.esdk_decrypt.specs.declared.errors.DecryptError.TheVariants as errors
-use Rattle.esdk_decrypt.specs.Decrypt.{AnswersTo, Asked, DecryptEnds, answering_of, asked_from, fault_of}
-use Rattle.esdk_decrypt.specs.Underway.{BearsOnce, IsCalled, IsFeedCalled, PutsAll, PutsFront}
+use Rattle.esdk_decrypt.specs.Decrypt.{AnswersTo, DecryptAsked, DecryptEnds, answering_of, asked_from, fault_of}
+use Rattle.esdk_decrypt.specs.Underway.{BearsOnce, OpenErrorIsCalled, IsFeedCalled, PutsFront}
 use Rattle.esdk_decrypt.proofs.Answering.{Answered, answered_kept, any_unread, fails_whole, front_released, judged_before, nothing_unread, sound_before, still_wanting}
 
 -- ---- the header of faulty bytes
 
 -- where the header has the fault, there is none
-unread_by : (settings : Settings) (b : List ℕ) (fault : Fault) (r : Reading Head) → header settings (start b) ≡ r → header_fault settings b ≡ Some fault → header_in settings b ≡ None
-unread_by settings b fault (Read parts p) e is = absurd (let no : None ≡ Some fault = sym (ap (λ (r : Reading Head). fault_in r) e) ∙ is in cc)
-unread_by settings b fault (Refused other at) e is = ap (λ (r : Reading Head). option_map (header_of b) (value_of r)) e
-unread_by settings b fault Wanting e is = absurd (let no : None ≡ Some fault = sym (ap (λ (r : Reading Head). fault_in r) e) ∙ is in cc)
+unread_by : (settings : Settings) (b : List ℕ) (fault : Fault) (r : Reading HeaderFields) → header settings (start b) ≡ r → header_fault settings b ≡ Some fault → header_in settings b ≡ None
+unread_by settings b fault (Read parts p) e is = absurd (let no : None ≡ Some fault = sym (ap (λ (r : Reading HeaderFields). fault_in r) e) ∙ is in cc)
+unread_by settings b fault (Refused other at) e is = ap (λ (r : Reading HeaderFields). option_map (header_of b) (value_of r)) e
+unread_by settings b fault Wanting e is = absurd (let no : None ≡ Some fault = sym (ap (λ (r : Reading HeaderFields). fault_in r) e) ∙ is in cc)
 
 pub unread : (settings : Settings) (b : List ℕ) (fault : Fault) → header_fault settings b ≡ Some fault → header_in settings b ≡ None
 unread settings b fault is = unread_by settings b fault (header settings (start b)) refl is
 
-head_none : (b : List ℕ) (o : Option Head) → option_map (header_of b) o ≡ None → o ≡ None
+head_none : (b : List ℕ) (o : Option HeaderFields) → option_map (header_of b) o ≡ None → o ≡ None
 head_none b None e = refl
 head_none b (Some parts) e = absurd cc
 
 -- nothing is released yet
-nothing_first : (settings : Settings) (given : List KeyValue) → content (judged_now (new_session settings given)) ≡ []
+nothing_first : (settings : Settings) (given : List KeyValue) → content (judged_now (new_opening_session settings given)) ≡ []
 nothing_first settings given = nothing_unread settings [] (answer_kept None) ((opened_goes settings given).unheard refl)
 
 -- no header is asked about where none is whole
-pub none_asked : (settings : Settings) (given : List KeyValue) (b : List ℕ) → head settings b ≡ None → asked_header (new_session settings given) b ≡ None
-none_asked settings given b none = ap (λ (o : Option Head). option_map (header_of b) o) none
+pub none_asked : (settings : Settings) (given : List KeyValue) (b : List ℕ) → head settings b ≡ None → asked_header (new_opening_session settings given) b ≡ None
+none_asked settings given b none = ap (λ (o : Option HeaderFields). option_map (header_of b) o) none
 
 some_none : {A : Type 0} (a : A) → Some a ≡ None → ⊥
 some_none a e = cc
 
 -- where none is whole, none is in what came first
-pub headless_before : (settings : Settings) (b more : List ℕ) (o : Option Head) → head settings b ≡ o → head settings (b ++ more) ≡ None → head settings b ≡ None
+pub headless_before : (settings : Settings) (b more : List ℕ) (o : Option HeaderFields) → head settings b ≡ o → head settings (b ++ more) ≡ None → head settings b ≡ None
 headless_before settings b more None e none = e
 headless_before settings b more (Some parts) e none =
     let h : HeaderValue = header_of b parts in
-    let here : header_in settings b ≡ Some h = ap (λ (o : Option Head). option_map (header_of b) o) e in
-    absurd (some_none h (sym (header_on settings b more h (header settings (start b)) refl here) ∙ ap (λ (o : Option Head). option_map (header_of (b ++ more)) o) none))
+    let here : header_in settings b ≡ Some h = ap (λ (o : Option HeaderFields). option_map (header_of b) o) e in
+    absurd (some_none h (sym (header_on settings b more h (header settings (start b)) refl here) ∙ ap (λ (o : Option HeaderFields). option_map (header_of (b ++ more)) o) none))
 
 module _ {M O : Type 0} (state : M → ManagerNow) (sink : O → SinkState) (now : ℕ) (settings : Settings) (given : List KeyValue) (bytes piece : List ℕ) (first mid new : M) (begun during after : O) (opener next : Opener)
-    (input taken : SourceState) (whole : FedWhole state (PutsAll sink) now (new_session settings given) bytes first mid begun during opener) (came : Came input taken (bytes ++ piece)) (faults : taken.faults ≡ input.faults)
+    (input taken : SourceState) (whole : FedWhole state (PutsAll sink) now (new_opening_session settings given) bytes first mid begun during opener) (came : Came input taken (bytes ++ piece)) (faults : taken.faults ≡ input.faults)
     (few : length piece ≤ most_piece) where
-  abbrev asked : Asked
+  abbrev asked : DecryptAsked
   asked = asked_from (state first) (state new) now settings given
 
   abbrev v : OpeningValue
-  v = new_session settings given
+  v = new_opening_session settings given
 
   abbrev w : OpeningValue
   w = whole.fed.session
@@ -196,7 +197,7 @@ module _ {M O : Type 0} (state : M → ManagerNow) (sink : O → SinkState) (now
       → short.reached.answer ≡ kept → (kept ≡ None → head settings b ≡ None) → header_in settings b ≡ Some h
       → KeepsAnswer (said_last (state first) (state new)) now given (Some h) kept
   lacks_some short b h None all is unheard e =
-      absurd (some_none h (sym e ∙ ap (λ (o : Option Head). option_map (header_of b) o) (unheard refl)))
+      absurd (some_none h (sym e ∙ ap (λ (o : Option HeaderFields). option_map (header_of b) o) (unheard refl)))
   lacks_some short b h (Some a) all is unheard e =
       let j = joined opens.Memory short in
       let later : header_in settings (bytes ++ piece) ≡ Some h =
@@ -250,7 +251,7 @@ module _ {M O : Type 0} (state : M → ManagerNow) (sink : O → SinkState) (now
         short.nothing none.1 ∙ none_given none.0,
       )
 
-  pub short_ends : (error : OpenError) (named : DecryptError) → FedShort state (PutsAll sink) now w piece error mid new during after next → IsCalled error named
+  pub short_ends : (error : OpenError) (named : DecryptError) → FedShort state (PutsAll sink) now w piece error mid new during after next → OpenErrorIsCalled error named
       → DecryptEnds asked input taken (sink begun) (sink after) (after ≡ begun) named
   short_ends (opens.Fault fault) named short is = subst (λ (e : DecryptError). DecryptEnds asked input taken (sink begun) (sink after) (after ≡ begun) e) (sym is) (faulty_ends fault short)
   short_ends opens.KeyringFault named short is = subst (λ (e : DecryptError). DecryptEnds asked input taken (sink begun) (sink after) (after ≡ begun) e) (sym is) (failed_ends short)
@@ -271,7 +272,7 @@ module _ {M O : Type 0} (state : M → ManagerNow) (sink : O → SinkState) (now
       ap (λ (l : List ℕ). head settings l) (sym (fed.feeds.taken ∙ ap (λ (l : List ℕ). l ++ take c piece) whole.fed.feeds.taken))
       ∙ ap (λ (x : Settings). head x z.taken) (sym (fed.feeds.settings ∙ whole.fed.feeds.settings)) in
       subst (λ (o : Option HeaderValue). KeepsAnswer (said_last (state first) (state new)) now given o None)
-      (sym (ap (λ (o : Option Head). option_map (header_of b) o) (heads ∙ fed.feeds.goes.unheard is))) refl
+      (sym (ap (λ (o : Option HeaderFields). option_map (header_of b) o) (heads ∙ fed.feeds.goes.unheard is))) refl
 
   pub until_ends : {E : Type 0} (error : E) → FedUntil state (PutsFront sink) now w piece error mid new during after next
       → DecryptEnds asked input taken (sink begun) (sink after) (after ≡ begun) (errors.Outside outsides.SinkFault)
@@ -304,7 +305,7 @@ module _ {M O : Type 0} (state : M → ManagerNow) (sink : O → SinkState) (now
   -- ---- whatever ended it
 
   pub feed_ends : {E : Type 0} (error : FeedError OpenError E) (named : DecryptError)
-      → FeedsPiece {T = Unit {0}} state (PutsAll sink) (PutsFront sink) now w piece mid new during after next (Err error) → IsFeedCalled error named
+      → FeedsOpenerPiece {T = Unit {0}} state (PutsAll sink) (PutsFront sink) now w piece mid new during after next (Err error) → IsFeedCalled error named
       → DecryptEnds asked input taken (sink begun) (sink after) (after ≡ begun) named
   feed_ends (feeds.Receiver error) named until is =
       subst (λ (e : DecryptError). DecryptEnds asked input taken (sink begun) (sink after) (after ≡ begun) e) (sym is) (until_ends error until)
@@ -317,7 +318,7 @@ module _ {M O : Type 0} (state : M → ManagerNow) (sink : O → SinkState) (now
   short_bears error short = let j = joined error short in (served_in j.heard, j.bears)
 
   pub feed_bears : {E : Type 0} (error : FeedError OpenError E)
-      → FeedsPiece {T = Unit {0}} state (PutsAll sink) (PutsFront sink) now w piece mid new during after next (Err error) → BearsOnce (state first) (state new) now
+      → FeedsOpenerPiece {T = Unit {0}} state (PutsAll sink) (PutsFront sink) now w piece mid new during after next (Err error) → BearsOnce (state first) (state new) now
   feed_bears (feeds.Receiver error) until =
       let j = joins state now v bytes (take until.count piece) whole.given first mid new opener whole.fed ⊥ until.fed.heard until.fed.hears until.fed.bears until.fed.unasked in
       (served_in j.heard, j.bears)
@@ -332,7 +333,7 @@ module _ {M O : Type 0} (state : M → ManagerNow) (sink : O → SinkState) (now
   short_unasked error short none = (joined error short).unasked (none_asked settings given (bytes ++ piece) none)
 
   pub feed_unasked : {E : Type 0} (error : FeedError OpenError E)
-      → FeedsPiece {T = Unit {0}} state (PutsAll sink) (PutsFront sink) now w piece mid new during after next (Err error) → head settings (bytes ++ piece) ≡ None → new ≡ first
+      → FeedsOpenerPiece {T = Unit {0}} state (PutsAll sink) (PutsFront sink) now w piece mid new during after next (Err error) → head settings (bytes ++ piece) ≡ None → new ≡ first
   feed_unasked (feeds.Receiver error) until none =
       let j = joins state now v bytes (take until.count piece) whole.given first mid new opener whole.fed ⊥ until.fed.heard until.fed.hears until.fed.bears until.fed.unasked in
       let b : List ℕ = bytes ++ take until.count piece in
@@ -346,7 +347,7 @@ module _ {M O : Type 0} (state : M → ManagerNow) (sink : O → SinkState) (now
 
 -- a session that is fed isn't stopped
 pub never_off : {M O E : Type 0} (state : M → ManagerNow) (takes : O → O → List ℕ → Type 0) (fails : O → O → List ℕ → E → Type 0) (now : ℕ) (w : OpeningValue) (piece : List ℕ) (mid new : M) (during after : O) (next : Opener)
-    (error : FeedError OpenError E) → GoesOn w → FeedsPiece {T = Unit {0}} state takes fails now w piece mid new during after next (Err error) → error ≡ feeds.Machine opens.Stopped → ⊥
+    (error : FeedError OpenError E) → GoesOn w → FeedsOpenerPiece {T = Unit {0}} state takes fails now w piece mid new during after next (Err error) → error ≡ feeds.Machine opens.Stopped → ⊥
 never_off state takes fails now w piece mid new during after next (feeds.Machine opens.Stopped) goes off is = let no : true ≡ false = sym off.off ∙ goes.going in cc
 never_off state takes fails now w piece mid new during after next (feeds.Machine (opens.Fault fault)) goes off is = cc
 never_off state takes fails now w piece mid new during after next (feeds.Machine opens.KeyringFault) goes off is = cc

@@ -9,7 +9,7 @@ use Rattle.whole_input.specs.declared.pieces.End.TheVariants as ends
 use Rattle.whole_input.specs.Pieces.{NextPiece, PiecesValue}
 use Rattle.whole_input.specs.Taken.{Came}
 use Rattle.whole_input.proofs.Coming.{came_more, came_none, came_still}
-use Rattle.esdk_decrypt.specs.Underway.{InputEnds}
+use Rattle.esdk_decrypt.specs.Underway.{NoMoreCame}
 
 -- These bytes came, so many, and no read failed.
 pub record CameWell (first now : SourceState) (count : ℕ) (bytes : List ℕ) : Type 0 where
@@ -42,7 +42,7 @@ well_more first old new count bytes v well next = record {
 
 -- why no more came
 pub well_ends : (first old new : SourceState) (count : ℕ) (bytes : List ℕ) (v : PiecesValue) (end : End) → CameWell first old count bytes → NextPiece {T = Unit {0}} count old new v (Err end)
-    → Came first new bytes × InputEnds first new bytes end
+    → Came first new bytes × NoMoreCame first new bytes end
 well_ends first old new count bytes v ends.Seen well next =
     (came_still first old new bytes well.came next.0, record { end = next.1; seen = next.5; faults = next.2 ∙ well.faults; few = omega (arith, well.size, next.3) })
 well_ends first old new count bytes v ends.Failed well next =

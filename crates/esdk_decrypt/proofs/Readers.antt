@@ -2,7 +2,7 @@
 use Rattle.std.proofs.Common.{◌≡◌, ℕ, List, ◌++◌, refl, sym, ap, subst, ◌∙◌}
 use Rattle.esdk_fields.specs.Place.{start}
 use Rattle.esdk_fields.specs.Reading.{Reading, Read, Refused, Wanting}
-use Rattle.header_codec.specs.Table.{Head, header}
+use Rattle.header_codec.specs.Table.{HeaderFields, header}
 use Rattle.keyring_trait.specs.Unlocking.{Unlocking, Refuses, Unlocks}
 use Rattle.message_format.specs.Judgement.{judged}
 use Rattle.message_format.specs.Reading.{unlock_reading, unlocking}
@@ -12,7 +12,7 @@ use Rattle.esdk_decrypt.specs.Decrypt.{AnswersReading, AnswersTo, FailsReading, 
 use Rattle.esdk_decrypt.specs.Told.{Reader, answering_by, judged_by}
 use Rattle.esdk_decrypt.proofs.Answering.{answers_before}
 
-answer_is : (reader : Reader) (b : List ℕ) (r : Reading Head) (answer : Unlocking) → AnswersReading (answering_by reader) reader.given b r answer
+answer_is : (reader : Reader) (b : List ℕ) (r : Reading HeaderFields) (answer : Unlocking) → AnswersReading (answering_by reader) reader.given b r answer
     → answer ≡ unlock_reading b reader.given reader.required reader.keys r
 answer_is reader b (Read parts body) (Unlocks whole only key) answers = sym answers.1
 answer_is reader b (Read parts body) (Refuses fault) is = sym is
@@ -32,7 +32,7 @@ judged_reader reader b answer answers =
     ap (judged b reader.settings) (answers_unlocking reader b answer answers) ∙ sym (read_is b reader.settings reader.given reader.required reader.keys)
 
 -- the same of bytes that come first
-judged_by_first : (reader : Reader) (first piece : List ℕ) (answer : Unlocking) (r : Reading Head) → header reader.settings (start first) ≡ r
+judged_by_first : (reader : Reader) (first piece : List ℕ) (answer : Unlocking) (r : Reading HeaderFields) → header reader.settings (start first) ≡ r
     → AnswersTo (answering_by reader) reader.settings reader.given (first ++ piece) answer → judged first reader.settings answer ≡ judged_by reader first
 judged_by_first reader first piece answer (Read parts p) e answers = judged_reader reader first answer (answers_before (answering_by reader) reader.settings reader.given first piece answer parts p e answers)
 judged_by_first reader first piece answer (Refused fault at) e answers =
@@ -49,7 +49,7 @@ judged_first reader bytes first piece answer all answers =
     (subst (λ (b : List ℕ). AnswersTo (answering_by reader) reader.settings reader.given b answer) all answers)
 
 -- and a reader doesn't fail
-none_fails : (reader : Reader) (b : List ℕ) (r : Reading Head) → ¬ (FailsReading (answering_by reader) reader.given b r)
+none_fails : (reader : Reader) (b : List ℕ) (r : Reading HeaderFields) → ¬ (FailsReading (answering_by reader) reader.given b r)
 none_fails reader b (Read parts body) none = none
 none_fails reader b (Refused fault at) none = none
 none_fails reader b Wanting none = none

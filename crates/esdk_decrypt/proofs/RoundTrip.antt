@@ -12,7 +12,7 @@ use Rattle.message_format.specs.Reading.{unlocking}
 use Rattle.message_format.proofs.RoundTrip.{reads_written, unlocks_written}
 use Rattle.message_format.proofs.WrittenMessages.{text_released}
 use Rattle.esdk_decrypt.specs.Decrypt.{Decrypts}
-use Rattle.esdk_decrypt.specs.Told.{Reader, asked_by, judged_by}
+use Rattle.esdk_decrypt.specs.Told.{Reader, decrypting_by, judged_by}
 use Rattle.esdk_decrypt.specs.Laws.{IsWholeInput, IsWrittenFor, Written, written_message}
 use Rattle.esdk_decrypt.proofs.WholeInputs.{all_decrypted}
 
@@ -43,7 +43,7 @@ same_context a b c d k l e = cc
 
 -- what is decrypted of it is the text, with its whole context
 pub text_decrypted : (reader : Reader) (writers : List WrapKeyValue) (m : Written) (input taken : SourceState) (output put : SinkState) (context : List KeyValue)
-    → IsWrittenFor reader writers m → input.left ≡ Some (written_message m) → Decrypts (asked_by reader) input taken output put context
+    → IsWrittenFor reader writers m → input.left ≡ Some (written_message m) → Decrypts (decrypting_by reader) input taken output put context
     → Appends output.written put.written m.text × (context ≡ m.context)
 text_decrypted reader writers m input taken output put context for told done =
     let all = all_decrypted reader input taken output put context (written_message m) told done in (

@@ -10,7 +10,7 @@ use Rattle.esdk_fields.specs.Reading.{Reading, Read, Refused, Wanting}
 use Rattle.esdk_base.specs.Streams.{SinkState, SourceState}
 use Rattle.context_codec.specs.Context.{KeyValue}
 use Rattle.header_codec.specs.declared.settings.Settings.{Settings}
-use Rattle.header_codec.specs.Table.{Head, header}
+use Rattle.header_codec.specs.Table.{HeaderFields, header}
 use Rattle.edk_codec.specs.Entry.{Entry}
 use Rattle.context_codec.specs.Parts.{only_given, whole_of}
 use Rattle.keyring_trait.specs.declared.manager_errors.ManagerError.{ManagerError}
@@ -20,8 +20,8 @@ use Rattle.keyring_trait.specs.Materials.{DecMaterialsValue}
 use Rattle.keyring_trait.specs.Requests.{DecRequestValue}
 use Rattle.keyring_trait.specs.Unlocking.{Unlocking, Refuses, Unlocks, opens_with, pair_offence, unless, unlock}
 use Rattle.keyring_trait.specs.Wrapping.{WrapKeyValue, unwrapped}
-use Rattle.esdk_decrypt.specs.Decrypt.{Answering, AnswersReading, AnswersRequest, AnswersTo, Asked, FailsReading, Decrypts, DecryptEnds, Releases, ReleasesFront, answering_of}
-use Rattle.esdk_decrypt.specs.Told.{NoneFor, answering_by, asked_by}
+use Rattle.esdk_decrypt.specs.Decrypt.{Answering, AnswersReading, AnswersRequest, AnswersTo, DecryptAsked, FailsReading, Decrypts, DecryptEnds, Releases, ReleasesFront, answering_of}
+use Rattle.esdk_decrypt.specs.Told.{NoneForAnswer, answering_by, decrypting_by}
 use Rattle.esdk_decrypt.specs.declared.errors.DecryptError.{DecryptError}
 use Rattle.esdk_decrypt.specs.declared.errors.DecryptError.TheVariants as errors
 
@@ -66,7 +66,7 @@ fault_unlocks old new keys request fault told is finds = absurd finds.0
 
 none_unlocks : (old new : ManagerNow) (keys : List WrapKeyValue) (request : DecRequestValue) (error : ManagerError)
     → old.tells keys → old.exact → Stayed old.meaning.faults new.meaning.faults → FindsNone old new request error
-    → NoneFor (unlock request.stored request.entries request.given old.meaning.demands keys) error
+    → NoneForAnswer (unlock request.stored request.entries request.given old.meaning.demands keys) error
 none_unlocks old new keys request (managers.Fault fault) told is stayed finds = fault_unlocks old new keys request fault told is finds
 none_unlocks old new keys request (managers.Refusal refusal) told is stayed none = none
 none_unlocks old new keys request managers.KeyringFault told is stayed failed = absurd (omega (arith, stayed, failed.0))
@@ -92,19 +92,19 @@ request_allowed from to request (Unlocks whole only key) allows answers =
     (answers.0, allows.finds request (record { context = whole; only = only; key = key; served = answers.0 }) answers.1)
 request_allowed from to request (Refuses fault) allows answers = allows.finds_none request (managers.Fault fault) answers
 
-reading_allowed : (from to : Answering) (given : List KeyValue) (b : List ℕ) (r : Reading Head) (answer : Unlocking) → Allows from to
+reading_allowed : (from to : Answering) (given : List KeyValue) (b : List ℕ) (r : Reading HeaderFields) (answer : Unlocking) → Allows from to
     → AnswersReading from given b r answer → AnswersReading to given b r answer
 reading_allowed from to given b (Read parts body) answer allows answers = request_allowed from to _ answer allows answers
 reading_allowed from to given b (Refused fault at) answer allows is = is
 reading_allowed from to given b Wanting answer allows is = is
 
-pub failing_allowed : (from to : Answering) (given : List KeyValue) (b : List ℕ) (r : Reading Head) → Allows from to → FailsReading from given b r → FailsReading to given b r
+pub failing_allowed : (from to : Answering) (given : List KeyValue) (b : List ℕ) (r : Reading HeaderFields) → Allows from to → FailsReading from given b r → FailsReading to given b r
 failing_allowed from to given b (Read parts body) allows fails = allows.finds_none _ managers.KeyringFault fails
 failing_allowed from to given b (Refused fault at) allows none = none
 failing_allowed from to given b Wanting allows none = none
 
 -- a run about this manager's answers
-abbrev pub asked_of : Answering → Settings → List KeyValue → Asked
+abbrev pub asked_of : Answering → Settings → List KeyValue → DecryptAsked
 asked_of manager settings given = record { manager = manager; settings = settings; given = given }
 
 pub answered_allowed : (from to : Answering) (settings : Settings) (given : List KeyValue) (b : List ℕ) (answer : Unlocking) → Allows from to
@@ -183,7 +183,7 @@ ends_allowed from to settings given input taken output put unwritten errors.Memo
 pub decrypts_read : {E : Type 0} (old new : ManagerNow) (now : ℕ) (keys : List WrapKeyValue) (settings : Settings) (given : List KeyValue)
     (input taken : SourceState) (output put : SinkState) → old.tells keys → old.exact → Stayed old.meaning.faults new.meaning.faults
     → (r : Result (List KeyValue) E) → IfOk r (λ context. Decrypts (asked_of (answering_of old new now) settings given) input taken output put context)
-    → IfOk r (λ context. Decrypts (asked_by (record { keys = keys; settings = settings; given = given; required = old.meaning.demands })) input taken output put context)
+    → IfOk r (λ context. Decrypts (decrypting_by (record { keys = keys; settings = settings; given = given; required = old.meaning.demands })) input taken output put context)
 decrypts_read old new now keys settings given input taken output put told is stayed (Err error) done = tt
 decrypts_read old new now keys settings given input taken output put told is stayed (Ok context) done =
     decrypts_allowed (reader_allows old new now keys settings given told is stayed) done
@@ -192,7 +192,7 @@ decrypts_read old new now keys settings given input taken output put told is sta
 pub ends_read : {T : Type 0} (old new : ManagerNow) (now : ℕ) (keys : List WrapKeyValue) (settings : Settings) (given : List KeyValue)
     (input taken : SourceState) (output put : SinkState) (unwritten : Type 0) → old.tells keys → old.exact → Stayed old.meaning.faults new.meaning.faults
     → (r : Result T DecryptError) → IfErr r (λ error. DecryptEnds (asked_of (answering_of old new now) settings given) input taken output put unwritten error)
-    → IfErr r (DecryptEnds (asked_by (record { keys = keys; settings = settings; given = given; required = old.meaning.demands })) input taken output put unwritten)
+    → IfErr r (DecryptEnds (decrypting_by (record { keys = keys; settings = settings; given = given; required = old.meaning.demands })) input taken output put unwritten)
 ends_read old new now keys settings given input taken output put unwritten told is stayed (Ok done) ends = tt
 ends_read old new now keys settings given input taken output put unwritten told is stayed (Err error) ends =
     ends_allowed _ _ settings given input taken output put unwritten error (reader_allows old new now keys settings given told is stayed) ends

@@ -14,8 +14,8 @@ use Rattle.message_format.specs.Reading.{unlocking}
 use Rattle.message_format.proofs.Following.{faults_stay}
 use Rattle.message_format.proofs.ReadingOn.{read_goes_on}
 use Rattle.whole_input.specs.Taken.{Came, EndSeen}
-use Rattle.esdk_decrypt.specs.Decrypt.{fault_of, fault_at_end, Decrypts, HasFault, DecryptEnds}
-use Rattle.esdk_decrypt.specs.Told.{Reader, asked_by, judged_by}
+use Rattle.esdk_decrypt.specs.Decrypt.{fault_of, fault_at_end, Decrypts, DecryptFindsFault, DecryptEnds}
+use Rattle.esdk_decrypt.specs.Told.{Reader, decrypting_by, judged_by}
 use Rattle.esdk_decrypt.specs.Laws.{IsWholeInput, IsWholeMessage}
 use Rattle.esdk_decrypt.specs.declared.errors.DecryptError.{DecryptError}
 use Rattle.esdk_decrypt.specs.declared.errors.DecryptError.TheVariants as errors
@@ -71,7 +71,7 @@ front_judged reader told bytes more fault is e =
 
 -- a fault that is answered is that of all the bytes
 fault_judged : (reader : Reader) (input taken : SourceState) (output put : SinkState) (told : List ℕ) (fault : Fault)
-    → input.left ≡ Some told → (has : HasFault (asked_by reader) input taken output put fault)
+    → input.left ≡ Some told → (has : DecryptFindsFault (decrypting_by reader) input taken output put fault)
     → (judged_by reader told ≡ judged has.bytes reader.settings has.answer) × (fault_at_end (judged has.bytes reader.settings has.answer).verdict ≡ Some fault)
 fault_judged reader input taken output put told fault is has =
     let same = judged_reader reader has.bytes has.answer has.releases.answered in
@@ -83,7 +83,7 @@ fault_judged reader input taken output put told fault is has =
     ]
 
 pub first_fault : (reader : Reader) (input taken : SourceState) (output put : SinkState) (told : List ℕ) (fault : Fault)
-    → input.left ≡ Some told → HasFault (asked_by reader) input taken output put fault
+    → input.left ≡ Some told → DecryptFindsFault (decrypting_by reader) input taken output put fault
     → (fault_at_end (judged_by reader told).verdict ≡ Some fault) × Appends output.written put.written (content (judged_by reader told))
 first_fault reader input taken output put told fault is has =
     let all = fault_judged reader input taken output put told fault is has in (
@@ -93,7 +93,7 @@ first_fault reader input taken output put told fault is has =
 
 -- what is decrypted is all the bytes
 pub all_decrypted : (reader : Reader) (input taken : SourceState) (output put : SinkState) (context : List KeyValue) (told : List ℕ)
-    → input.left ≡ Some told → Decrypts (asked_by reader) input taken output put context → IsWholeMessage reader told output put context
+    → input.left ≡ Some told → Decrypts (decrypting_by reader) input taken output put context → IsWholeMessage reader told output put context
 all_decrypted reader input taken output put context told is done =
     let all = came_all input taken told done.bytes is done.releases.came done.end in
     let same = ap (judged_by reader) all ∙ sym (judged_reader reader done.bytes (Unlocks context done.only done.key) done.releases.answered) in
@@ -109,7 +109,7 @@ all_decrypted reader input taken output put context told is done =
 -- of a whole input only memory can be wanting
 pub memory_alone : (reader : Reader) (input taken : SourceState) (output put : SinkState) (unwritten : Type 0) (told : List ℕ) (error : DecryptError)
     → IsWholeInput reader input told → Stayed input.faults taken.faults → Stayed output.faults put.faults
-    → DecryptEnds (asked_by reader) input taken output put unwritten error → error ≡ errors.Memory
+    → DecryptEnds (decrypting_by reader) input taken output put unwritten error → error ≡ errors.Memory
 memory_alone reader input taken output put unwritten told (errors.Fault fault) whole source sink has =
     let named = first_fault reader input taken output put told fault whole.told has in
     let none : None ≡ Some fault = sym (ap fault_at_end whole.whole) ∙ named.0 in

@@ -13,10 +13,9 @@ use Rattle.keyring_trait.specs.Wrapping.{WrapKeyValue}
 use Rattle.body_format.specs.declared.verdicts.Verdict.TheVariants.{Whole}
 use Rattle.message_format.specs.Message.{message, IsWritable}
 use Rattle.message_format.specs.Judgement.{content}
-use Rattle.message_format.specs.Reading.{unlocking}
 use Rattle.message_format.specs.Laws.{IsWithinLimits, whole_of_text}
-use Rattle.esdk_decrypt.specs.Decrypt.{fault_at_end, Decrypts, HasFault, DecryptEnds}
-use Rattle.esdk_decrypt.specs.Told.{Reader, asked_by, judged_by}
+use Rattle.esdk_decrypt.specs.Decrypt.{fault_at_end, Decrypts, DecryptFindsFault, DecryptEnds}
+use Rattle.esdk_decrypt.specs.Told.{Reader, decrypting_by, judged_by, unlocked_to}
 use Rattle.esdk_decrypt.specs.declared.errors.DecryptError.{DecryptError}
 use Rattle.esdk_decrypt.specs.declared.errors.DecryptError.TheVariants.{Memory}
 
@@ -28,34 +27,46 @@ pub record IsWholeInput (reader : Reader) (input : SourceState) (bytes : List �
   pub few : length bytes < 2 ^ 62
   pub whole : (judged_by reader bytes).verdict ≡ Whole
 
--- Where neither the input nor the output fails, nothing but want of memory keeps a whole message from being decrypted. `⊤` stands for what the run left unwritten, which plays no part.
+-- Where neither the input nor the output fails, nothing but want of memory keeps a whole message
+-- from being decrypted. `⊤` stands for what the run left unwritten, which plays no part.
 abbrev pub DecryptsWholeInputs : Type 0
-DecryptsWholeInputs = (reader : Reader) (input taken : SourceState) (output put : SinkState) (bytes : List ℕ) (error : DecryptError)
-    → IsWholeInput reader input bytes → Stayed input.faults taken.faults → Stayed output.faults put.faults
-    → DecryptEnds (asked_by reader) input taken output put ⊤ error → error ≡ Memory
+DecryptsWholeInputs = (reader : Reader) (input taken : SourceState) (output put : SinkState)
+    (bytes : List ℕ) (error : DecryptError)
+    → IsWholeInput reader input bytes → Stayed input.faults taken.faults
+    → Stayed output.faults put.faults
+    → DecryptEnds (decrypting_by reader) input taken output put ⊤ error → error ≡ Memory
 
--- All of the input is a whole message, the output gained its content, and this is the whole context that it is unlocked with.
-pub record IsWholeMessage (reader : Reader) (bytes : List ℕ) (output put : SinkState) (context : List KeyValue) : Type 0 where
+-- All of the input is a whole message, the output gained its content, and this is the whole context
+-- that it is unlocked with.
+pub record IsWholeMessage (reader : Reader) (bytes : List ℕ) (output put : SinkState)
+    (context : List KeyValue) : Type 0 where
   pub only : List KeyValue
   pub key : List ℕ
-  pub unlocked : unlocking bytes reader.settings reader.given reader.required reader.keys ≡ Unlocks context only key
+  pub unlocked : unlocked_to reader bytes ≡ Unlocks context only key
   pub whole : (judged_by reader bytes).verdict ≡ Whole
   pub gained : Appends output.written put.written (content (judged_by reader bytes))
 
 -- What is decrypted is all of the input.
 abbrev pub DecryptsNothingElse : Type 0
-DecryptsNothingElse = (reader : Reader) (input taken : SourceState) (output put : SinkState) (context : List KeyValue) (bytes : List ℕ)
-    → input.left ≡ Some bytes → Decrypts (asked_by reader) input taken output put context → IsWholeMessage reader bytes output put context
+DecryptsNothingElse = (reader : Reader) (input taken : SourceState) (output put : SinkState)
+    (context : List KeyValue) (bytes : List ℕ)
+    → input.left ≡ Some bytes → Decrypts (decrypting_by reader) input taken output put context
+    → IsWholeMessage reader bytes output put context
 
--- A fault that is answered is that of all of the input, however little of it was taken, and the output gained what the judgement of all of it releases.
+-- A fault that is answered is that of all of the input, however little of it was taken, and the
+-- output gained what the judgement of all of it releases.
 abbrev pub NamesTheFirstFault : Type 0
-NamesTheFirstFault = (reader : Reader) (input taken : SourceState) (output put : SinkState) (bytes : List ℕ) (fault : Fault)
-    → input.left ≡ Some bytes → HasFault (asked_by reader) input taken output put fault
-    → (fault_at_end (judged_by reader bytes).verdict ≡ Some fault) × Appends output.written put.written (content (judged_by reader bytes))
+NamesTheFirstFault = (reader : Reader) (input taken : SourceState) (output put : SinkState)
+    (bytes : List ℕ) (fault : Fault)
+    → input.left ≡ Some bytes → DecryptFindsFault (decrypting_by reader) input taken output put
+    fault
+    → (fault_at_end (judged_by reader bytes).verdict ≡ Some fault)
+    × Appends output.written put.written (content (judged_by reader bytes))
 
 -- ---- what is written
 
--- A message, by its text, its context with the keys that are required of the reader, the frame length, the data key, the entries that hold it wrapped, and the message id.
+-- A message, by its text, its context with the keys that are required of the reader, the frame
+-- length, the data key, the entries that hold it wrapped, and the message id.
 pub record Written : Type 0 where
   pub text : List ℕ
   pub context : List KeyValue
@@ -68,8 +79,10 @@ pub record Written : Type 0 where
 abbrev pub written_message : Written → List ℕ
 written_message m = message m.text m.context m.required m.size m.key m.entries m.id
 
--- The message can be written, and doesn't hold the format's own key. It passes no limit of the reader's; its data key is wrapped under the writers' keys, of which the
--- reader has one; the reader is given the required pairs and beside them only pairs of the context, and every key that it requires.
+-- The message can be written, and doesn't hold the format's own key. It passes no limit of the
+-- reader's; its data key is wrapped under the writers' keys, of which the reader has one; the
+-- reader is given the required pairs and beside them only pairs of the context, and every key that
+-- it requires.
 pub record IsWrittenFor (reader : Reader) (writers : List WrapKeyValue) (m : Written) : Type 0 where
   pub writable : IsWritable m.text m.context m.required m.size m.key m.entries m.id
   pub unreserved : holds m.context reserved_key ≡ false
@@ -79,20 +92,27 @@ pub record IsWrittenFor (reader : Reader) (writers : List WrapKeyValue) (m : Wri
   pub given : AreGiven reader.required reader.given
 
 -- It is unlocked with its whole context, is whole, and one unit is released for each frame.
-abbrev pub JudgesWhatIsWritten : Type 0
-JudgesWhatIsWritten = (reader : Reader) (writers : List WrapKeyValue) (m : Written) → IsWrittenFor reader writers m
-    → (unlocking (written_message m) reader.settings reader.given reader.required reader.keys ≡ Unlocks m.context (only_of m.required m.context) m.key)
+abbrev pub ReadersJudgeWhatIsWritten : Type 0
+ReadersJudgeWhatIsWritten =
+    (reader : Reader) (writers : List WrapKeyValue) (m : Written) → IsWrittenFor reader writers m
+    → (unlocked_to reader (written_message m)
+    ≡ Unlocks m.context (only_of m.required m.context) m.key)
     × (judged_by reader (written_message m) ≡ whole_of_text m.text m.size)
 
 -- What is decrypted of it is its text, with its whole context.
 abbrev pub DecryptsToTheText : Type 0
-DecryptsToTheText = (reader : Reader) (writers : List WrapKeyValue) (m : Written) (input taken : SourceState) (output put : SinkState) (context : List KeyValue)
+DecryptsToTheText = (reader : Reader) (writers : List WrapKeyValue) (m : Written)
+    (input taken : SourceState) (output put : SinkState) (context : List KeyValue)
     → IsWrittenFor reader writers m → input.left ≡ Some (written_message m)
-    → Decrypts (asked_by reader) input taken output put context → Appends output.written put.written m.text × (context ≡ m.context)
+    → Decrypts (decrypting_by reader) input taken output put context
+    → Appends output.written put.written m.text × (context ≡ m.context)
 
--- Where neither the input nor the output fails, nothing but want of memory keeps it from being decrypted.
+-- Where neither the input nor the output fails, nothing but want of memory keeps it from being
+-- decrypted.
 abbrev pub DecryptsWhatIsWritten : Type 0
-DecryptsWhatIsWritten = (reader : Reader) (writers : List WrapKeyValue) (m : Written) (input taken : SourceState) (output put : SinkState) (error : DecryptError)
+DecryptsWhatIsWritten = (reader : Reader) (writers : List WrapKeyValue) (m : Written)
+    (input taken : SourceState) (output put : SinkState) (error : DecryptError)
     → IsWrittenFor reader writers m → input.left ≡ Some (written_message m)
-    → length (written_message m) < 2 ^ 62 → Stayed input.faults taken.faults → Stayed output.faults put.faults
-    → DecryptEnds (asked_by reader) input taken output put ⊤ error → error ≡ Memory
+    → length (written_message m) < 2 ^ 62 → Stayed input.faults taken.faults
+    → Stayed output.faults put.faults
+    → DecryptEnds (decrypting_by reader) input taken output put ⊤ error → error ≡ Memory

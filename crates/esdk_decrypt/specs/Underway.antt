@@ -6,7 +6,7 @@ use Rattle.esdk_fields.specs.declared.refusals.Outside.TheVariants as outsides
 use Rattle.esdk_base.specs.declared.receiver.FeedError.{FeedError}
 use Rattle.esdk_base.specs.declared.receiver.FeedError.TheVariants as feeds
 use Rattle.esdk_base.specs.declared.source.Failed.{Failed}
-use Rattle.esdk_base.specs.Receiver.{SinkFails, SinkTakes}
+use Rattle.esdk_base.specs.Receiver.{SinkFails, PutsAll}
 use Rattle.esdk_base.specs.Streams.{SinkState, SourceState}
 use Rattle.context_codec.specs.Context.{KeyValue}
 use Rattle.header_codec.specs.declared.settings.Settings.{Settings}
@@ -19,8 +19,8 @@ use Rattle.stream_open.specs.declared.errors.OpenError.TheVariants as opens
 use Rattle.stream_open.specs.declared.session.Opener.{Opener}
 use Rattle.stream_open.specs.Asking.{BearsHeard}
 use Rattle.stream_open.specs.Feeding.{GoesOn}
-use Rattle.stream_open.specs.Receiving.{FedWhole, FeedsPiece}
-use Rattle.stream_open.specs.Session.{OpeningValue, answer_kept, judged_now, new_session}
+use Rattle.stream_open.specs.Receiving.{FedWhole, FeedsOpenerPiece}
+use Rattle.stream_open.specs.Session.{OpeningValue, answer_kept, judged_now, new_opening_session}
 use Rattle.stream_open.specs.Stands.{Stands}
 use Rattle.whole_input.specs.declared.pieces.End.{End}
 use Rattle.whole_input.specs.declared.pieces.End.TheVariants as ends
@@ -44,36 +44,32 @@ IsUnasked settings input taken unasked =
 -- ---- the opener
 
 -- The opener has taken nothing. It keeps these limits, and is given these pairs.
-pub record IsNew (opener : Opener) : Type 0 where
+pub record OpenerIsNew (opener : Opener) : Type 0 where
   pub settings : Settings
   pub given : List KeyValue
-  pub stands : Stands opener (new_session settings given)
+  pub stands : Stands opener (new_opening_session settings given)
 
 -- The opener stands for a session that goes on.
-pub record IsGoing (opener : Opener) : Type 0 where
+pub record OpenerIsGoing (opener : Opener) : Type 0 where
   pub session : OpeningValue
   pub stands : Stands opener session
   pub goes : GoesOn session
 
 -- what an opener's error is called; a session that goes on isn't stopped
-abbrev pub IsCalled : OpenError → DecryptError → Type 0
-IsCalled (opens.Fault fault) error = error ≡ errors.Fault fault
-IsCalled opens.KeyringFault error = error ≡ errors.Outside outsides.KeyringFault
-IsCalled opens.Stopped error = ⊥
-IsCalled opens.Memory error = error ≡ errors.Memory
+abbrev pub OpenErrorIsCalled : OpenError → DecryptError → Type 0
+OpenErrorIsCalled (opens.Fault fault) error = error ≡ errors.Fault fault
+OpenErrorIsCalled opens.KeyringFault error = error ≡ errors.Outside outsides.KeyringFault
+OpenErrorIsCalled opens.Stopped error = ⊥
+OpenErrorIsCalled opens.Memory error = error ≡ errors.Memory
 
 -- ---- the output
-
--- a sink took all of these bytes, or failed at them
-abbrev pub PutsAll : {O : Type 0} → (O → SinkState) → O → O → List ℕ → Type 0
-PutsAll state old new bytes = SinkTakes (state old) (state new) bytes
 
 abbrev pub PutsFront : {O E : Type 0} → (O → SinkState) → O → O → List ℕ → E → Type 0
 PutsFront state old new bytes error = SinkFails (state old) (state new) bytes
 
 -- what an error of feeding is called
 abbrev pub IsFeedCalled : {E : Type 0} → FeedError OpenError E → DecryptError → Type 0
-IsFeedCalled (feeds.Machine error) named = IsCalled error named
+IsFeedCalled (feeds.Machine error) named = OpenErrorIsCalled error named
 IsFeedCalled (feeds.Receiver error) named = named ≡ errors.Outside outsides.SinkFault
 
 -- what feeding a piece to a session comes to, whose error is called so
@@ -83,17 +79,18 @@ FeedsAs state sink now v piece old new output put opener (Ok done) =
     FedWhole state (PutsAll sink) now v piece old new output put opener
 FeedsAs state sink now v piece old new output put opener (Err named) =
     (error : FeedError OpenError Failed)
-    × FeedsPiece {T = Unit {0}} state (PutsAll sink) (PutsFront sink) now v piece old new output put
+    × FeedsOpenerPiece {T = Unit {0}} state (PutsAll sink) (PutsFront sink) now v piece old new
+    output put
     opener (Err error)
     × IsFeedCalled error named
 
 -- ---- the end
 
 -- why no more bytes came behind these
-abbrev pub InputEnds : SourceState → SourceState → List ℕ → End → Type 0
-InputEnds input taken bytes ends.Seen = EndSeen input taken bytes
-InputEnds input taken bytes ends.Failed = Rose input.faults taken.faults
-InputEnds input taken bytes ends.TooLong = MostTaken input taken bytes
+abbrev pub NoMoreCame : SourceState → SourceState → List ℕ → End → Type 0
+NoMoreCame input taken bytes ends.Seen = EndSeen input taken bytes
+NoMoreCame input taken bytes ends.Failed = Rose input.faults taken.faults
+NoMoreCame input taken bytes ends.TooLong = MostTaken input taken bytes
 
 -- All bytes that came were fed, and no more came because of that.
 pub record IsFedWhole {M O : Type 0} (state : M → ManagerNow) (sink : O → SinkState) (now : ℕ)
@@ -101,7 +98,7 @@ pub record IsFedWhole {M O : Type 0} (state : M → ManagerNow) (sink : O → Si
     (opener : Opener) : Type 0 where
   pub bytes : List ℕ
   pub came : Came input taken bytes
-  pub ends : InputEnds input taken bytes end
+  pub ends : NoMoreCame input taken bytes end
   pub fed : FedWhole state (PutsAll sink) now v bytes old new output put opener
 
 -- the session's bytes are a whole message, which was unlocked with this whole context; or they have
@@ -113,9 +110,9 @@ ConcludesWhole v (Err (errors.Fault fault)) = fault_at_end (judged_now v).verdic
 ConcludesWhole v (Err error) = ⊥
 
 -- how a decryption ends whose session took all bytes that came
-abbrev pub Concludes : OpeningValue → End → Result (List KeyValue) DecryptError → Type 0
-Concludes v ends.Seen result = ConcludesWhole v result
-Concludes v ends.Failed (Err (errors.Outside outsides.SourceFault)) = ⊤
-Concludes v ends.Failed result = ⊥
-Concludes v ends.TooLong (Err (errors.Outside outsides.InputTooLong)) = ⊤
-Concludes v ends.TooLong result = ⊥
+abbrev pub ConcludesDecryption : OpeningValue → End → Result (List KeyValue) DecryptError → Type 0
+ConcludesDecryption v ends.Seen result = ConcludesWhole v result
+ConcludesDecryption v ends.Failed (Err (errors.Outside outsides.SourceFault)) = ⊤
+ConcludesDecryption v ends.Failed result = ⊥
+ConcludesDecryption v ends.TooLong (Err (errors.Outside outsides.InputTooLong)) = ⊤
+ConcludesDecryption v ends.TooLong result = ⊥

@@ -8,12 +8,14 @@ ghost use Rattle.keyring_trait.specs.Wrapping.{WrapKeyValue};
 ghost use Rattle.esdk_base.specs.declared.receiver.FeedError.TheVariants.{Machine};
 ghost use Rattle.stream_open.specs.declared.errors.OpenError.TheVariants.{Stopped};
 ghost use Rattle.stream_open.specs.Feeding.{GoesOn};
-ghost use Rattle.stream_open.specs.Session.{OpeningValue, new_session};
+ghost use Rattle.stream_open.specs.Session.{OpeningValue, new_opening_session};
 ghost use Rattle.stream_open.specs.Stands.{Stands};
 ghost use Rattle.esdk_decrypt.specs.Decrypt.{Decrypts, DecryptEnds, asked_from};
-ghost use Rattle.esdk_decrypt.specs.Told.{asked_by};
-ghost use Rattle.esdk_decrypt.specs.Underway.{BearsOnce, Concludes, ConcludesWhole, FeedsAs};
-ghost use Rattle.esdk_decrypt.specs.Underway.{IsCalled, IsFedWhole, IsFeedCalled, IsGoing, IsNew, IsUnasked};
+ghost use Rattle.esdk_decrypt.specs.Told.{decrypting_by};
+ghost use Rattle.esdk_decrypt.specs.Underway.{BearsOnce, ConcludesDecryption, ConcludesWhole};
+ghost use Rattle.esdk_decrypt.specs.Underway.{FeedsAs};
+ghost use Rattle.esdk_decrypt.specs.Underway.{OpenErrorIsCalled, IsFedWhole, IsFeedCalled};
+ghost use Rattle.esdk_decrypt.specs.Underway.{OpenerIsGoing, OpenerIsNew, IsUnasked};
 
 use crate::errors::DecryptError;
 use context_codec::Context;
@@ -70,7 +72,7 @@ pub fn decrypt<M: Manager, S: Source, O: Sink>(
         → (M.state manager.old).exact
         → Stayed (M.state manager.old).meaning.faults (M.state manager.new).meaning.faults
         → IfOk result (Decrypts
-        (asked_by (record {
+        (decrypting_by (record {
           keys = keys;
           settings = settings;
           given = given.now;
@@ -82,7 +84,7 @@ pub fn decrypt<M: Manager, S: Source, O: Sink>(
         → (M.state manager.old).exact
         → Stayed (M.state manager.old).meaning.faults (M.state manager.new).meaning.faults
         → IfErr result (DecryptEnds
-        (asked_by (record {
+        (decrypting_by (record {
           keys = keys;
           settings = settings;
           given = given.now;
@@ -116,18 +118,19 @@ fn feed_input<M: Manager, S: Source, O: Sink>(
     output: &mut O,
 ) -> Result<End, DecryptError>
     requires manager { Went (M.state manager.old) (M.state manager.old) }
-    requires new { IsNew opener.old }
-    ensures fed { (new : IsNew opener.old) → IfOk result (λ end. IsFedWhole M.state O.state now
-        (new_session new.settings new.given) (S.state input.old) (S.state input.new)
+    requires new { OpenerIsNew opener.old }
+    ensures fed { (new : OpenerIsNew opener.old)
+        → IfOk result (λ end. IsFedWhole M.state O.state now
+        (new_opening_session new.settings new.given) (S.state input.old) (S.state input.new)
         manager.old manager.new output.old output.new end opener.new) }
-    ensures ends { (new : IsNew opener.old) → IfErr result (DecryptEnds
+    ensures ends { (new : OpenerIsNew opener.old) → IfErr result (DecryptEnds
         (asked_from (M.state manager.old) (M.state manager.new) now new.settings new.given)
         (S.state input.old) (S.state input.new) (O.state output.old) (O.state output.new)
         (output.new ≡ output.old)) }
-    ensures going { IfOk result (λ _. IsGoing opener.new) }
+    ensures going { IfOk result (λ _. OpenerIsGoing opener.new) }
     ensures went { Went (M.state manager.old) (M.state manager.new) }
     ensures bears { BearsOnce (M.state manager.old) (M.state manager.new) now }
-    ensures unasked { (new : IsNew opener.old) → IsUnasked new.settings (S.state input.old)
+    ensures unasked { (new : OpenerIsNew opener.old) → IsUnasked new.settings (S.state input.old)
         (S.state input.new) (manager.new ≡ manager.old) }
     ensures taken { (S.state input.new).given ≤ (S.state input.old).given + 2 ^ 62 }
     ensures lasts { S.lasts input.old input.new }
@@ -152,7 +155,7 @@ fn feed_piece<M: Manager, O: Sink>(
     opener: &mut Opener,
     output: &mut O,
 ) -> Result<(), DecryptError>
-    requires { IsGoing opener.old }
+    requires { OpenerIsGoing opener.old }
     ensures fed { (v : OpeningValue) → Stands opener.old v → FeedsAs M.state O.state now v piece.now
         manager.old manager.new output.old output.new opener.new result }
     ensures went { Went (M.state manager.old) (M.state manager.new) }
@@ -177,7 +180,7 @@ fn failure_of<E: Drop>(error: FeedError<OpenError, E>) -> DecryptError
 /// What an opener's error is called here.
 fn named(error: OpenError) -> DecryptError
     requires { error ≢ Stopped }
-    ensures { IsCalled error result }
+    ensures { OpenErrorIsCalled error result }
 {
     match error {
         OpenError::Fault(fault) => DecryptError::Fault(fault),
@@ -189,8 +192,8 @@ fn named(error: OpenError) -> DecryptError
 
 /// Says how a decryption ends whose opener took all bytes that came.
 fn conclude(opener: Opener, end: End) -> Result<Context, DecryptError>
-    requires { IsGoing opener }
-    ensures { (v : OpeningValue) → Stands opener v → GoesOn v → Concludes v end result }
+    requires { OpenerIsGoing opener }
+    ensures { (v : OpeningValue) → Stands opener v → GoesOn v → ConcludesDecryption v end result }
 {
     match end {
         End::Seen => whole_context(opener),
@@ -201,7 +204,7 @@ fn conclude(opener: Opener, end: End) -> Result<Context, DecryptError>
 
 /// The whole context of the message, where it is whole.
 fn whole_context(opener: Opener) -> Result<Context, DecryptError>
-    requires { IsGoing opener }
+    requires { OpenerIsGoing opener }
     ensures { (v : OpeningValue) → Stands opener v → GoesOn v → ConcludesWhole v result }
 {
     let mut opener = opener;

@@ -8,11 +8,11 @@ use Rattle.keyring_trait.specs.Manager.{ManagerNow, BearsOn, enc_served}
 use Rattle.keyring_trait.specs.Materials.{EncMaterialsValue}
 use Rattle.esdk_encrypt.specs.declared.errors.EncryptError.{EncryptError}
 use Rattle.esdk_encrypt.specs.Asking.{BearsAtMostOne, BearsOneMore, IsNotGiven}
-use Rattle.esdk_encrypt.specs.Encrypt.{Asked, Drew, GivesNot}
+use Rattle.esdk_encrypt.specs.Encrypt.{EncryptAsked, Drew, ManagerGivesNot}
 
 -- it gave none for the bytes drawn, and the run says so
-pub not_given : (asked : Asked) (entropy spent : EntropyState) (drawn : List ℕ) (unasked : Type 0) (error : ManagerError) (named : EncryptError) → Drew asked.wraps entropy spent drawn
-    → asked.gives_none error → GivesNot error named → IsNotGiven asked entropy spent unasked named
+pub not_given : (asked : EncryptAsked) (entropy spent : EntropyState) (drawn : List ℕ) (unasked : Type 0) (error : ManagerError) (named : EncryptError) → Drew asked.wraps entropy spent drawn
+    → asked.gives_none error → ManagerGivesNot error named → IsNotGiven asked entropy spent unasked named
 not_given asked entropy spent drawn unasked (managers.Refusal refusal) named drew none is =
     subst (λ (e : EncryptError). IsNotGiven asked entropy spent unasked e) (sym is) (record { drawn = drawn; drew = drew; cause = none; same = tt })
 not_given asked entropy spent drawn unasked managers.KeyringFault named drew none is =

@@ -13,16 +13,16 @@ use Rattle.stream_seal.proofs.GivenFrames.{frames_of_most}
 use Rattle.whole_input.proofs.Fronts.{front_beyond, front_longer}
 use Rattle.esdk_encrypt.specs.declared.errors.EncryptError.{EncryptError}
 use Rattle.esdk_encrypt.specs.declared.errors.EncryptError.TheVariants as errors
-use Rattle.esdk_encrypt.specs.Encrypt.{HeaderFails, StopsSo, header_and_frames, written_so_far}
-use Rattle.esdk_encrypt.specs.Gaining.{Form, Front, KeepsFronts, Whole, gained_as}
-use Rattle.esdk_encrypt.specs.Laws.{GainsFront}
+use Rattle.esdk_encrypt.specs.Encrypt.{EncryptHeaderFails, StopsSo, header_and_frames, written_so_far}
+use Rattle.esdk_encrypt.specs.Gaining.{OutputForm, Front, KeepsFronts, Whole, gained_as}
+use Rattle.esdk_encrypt.specs.Laws.{GainsMessageFront}
 use Rattle.esdk_encrypt.proofs.Sessions.{more_follows, written_none}
 
 -- all of some bytes is a front of them
 front_all : (a b : Option (List ℕ)) (xs : List ℕ) → Appends a b xs → AppendsFront a b xs
 front_all a b xs gained = (length xs, subst (λ (ys : List ℕ). Appends a b ys) (sym (take_all (length xs) xs (omega arith))) gained)
 
-module _ (form : Form) (fronts : KeepsFronts form) (m : EncMaterialsValue) (size : ℕ) (id : List ℕ) (wide : 1 ≤ size) where
+module _ (form : OutputForm) (fronts : KeepsFronts form) (m : EncMaterialsValue) (size : ℕ) (id : List ℕ) (wide : 1 ≤ size) where
   -- what is written while the input goes on is a front of the message
   begins : (text : List ℕ) (a b : Option (List ℕ)) → AppendsFront a b (form Front (written_so_far m size id text)) → AppendsFront a b (form Whole (message_of m size id text))
   begins text a b front =
@@ -47,13 +47,13 @@ module _ (form : Form) (fronts : KeepsFronts form) (m : EncMaterialsValue) (size
     goes_on text gained = begins text output.written put.written (front_all output.written put.written (form Front (written_so_far m size id text)) gained)
 
     -- nothing was taken
-    header_leaves : (text : List ℕ) → HeaderFails m size id (gained_as form output put) text → AppendsFront output.written put.written (form Whole (message_of m size id (take (most_text size) text)))
+    header_leaves : (text : List ℕ) → EncryptHeaderFails m size id (gained_as form output put) text → AppendsFront output.written put.written (form Whole (message_of m size id (take (most_text size) text)))
     header_leaves text fails =
         subst (λ (t : List ℕ). AppendsFront output.written put.written (form Whole (message_of m size id t))) (sym (take_all (most_text size) [] (omega arith)) ∙ ap (take (most_text size)) (sym fails.none))
         (begins [] output.written put.written (subst (λ (g : List ℕ). AppendsFront output.written put.written (form Front g)) (sym (written_none m size id))
         (front_beyond output put (form Front []) (form Front (start_of m size id)) fails.stopped.0)))
 
-    pub leaves_front : (error : EncryptError) → StopsSo m size id input taken (gained_as form output put) error → GainsFront form m size id input taken output put
+    pub leaves_front : (error : EncryptError) → StopsSo m size id input taken (gained_as form output put) error → GainsMessageFront form m size id input taken output put
     leaves_front (errors.Outside outsides.SourceFault) stops = record {
       text = stops.text;
       came = stops.came;

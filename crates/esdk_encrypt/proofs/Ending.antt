@@ -14,25 +14,25 @@ use Rattle.keyring_trait.specs.Manager.{ManagerNow}
 use Rattle.keyring_trait.specs.Materials.{EncMaterialsValue}
 use Rattle.keyring_trait.specs.Requests.{EncRequestValue}
 use Rattle.keyring_trait.specs.Saying.{said_last}
-use Rattle.stream_seal.specs.Start.{start_refusal}
+use Rattle.stream_seal.specs.Start.{start_refusal, drawn_id, drawn_rest}
 use Rattle.esdk_encrypt.specs.declared.errors.EncryptError.{EncryptError}
 use Rattle.esdk_encrypt.specs.declared.errors.EncryptError.TheVariants as errors
-use Rattle.esdk_encrypt.specs.Asking.{IsGiven, IsNotGiven}
-use Rattle.esdk_encrypt.specs.Encrypt.{Asked, Begins, Drew, Encrypts, EncryptEnds, BeginsNoMessage, StopsSo, drawn_id, drawn_rest, encryption_of}
+use Rattle.esdk_encrypt.specs.Asking.{MaterialsWereGiven, IsNotGiven}
+use Rattle.esdk_encrypt.specs.Encrypt.{EncryptAsked, CanBegin, Drew, Encrypts, EncryptEnds, BeginsNoMessage, StopsSo, encrypting_from}
 use Rattle.esdk_encrypt.specs.Gaining.{Gaining}
 use Rattle.esdk_encrypt.specs.Writing.{WritesOrStops}
 
 -- ---- the message was begun
 
 -- the bytes were drawn, the manager gave these materials, and a message can begin with them
-begins_with : (asked : Asked) (entropy spent : EntropyState) (drawn : List ℕ) (m : EncMaterialsValue) (id : List ℕ) → IsGiven asked entropy spent drawn m → id ≡ drawn_id drawn
-    → start_refusal m asked.max_keys id ≡ None → Begins asked entropy spent drawn m
+begins_with : (asked : EncryptAsked) (entropy spent : EntropyState) (drawn : List ℕ) (m : EncMaterialsValue) (id : List ℕ) → MaterialsWereGiven asked entropy spent drawn m → id ≡ drawn_id drawn
+    → start_refusal m asked.max_keys id ≡ None → CanBegin asked entropy spent drawn m
 begins_with asked entropy spent drawn m id given is begins =
     record { drew = given.drew; given = given.given; begins = subst (λ (i : List ℕ). start_refusal m asked.max_keys i ≡ None) is begins }
 
 -- the whole input was written, under the id that was drawn
-pub ends_done : (asked : Asked) (input taken : SourceState) (gains : Gaining) (entropy spent : EntropyState) (drawn : List ℕ) (m : EncMaterialsValue) (id : List ℕ) (r : Result (Unit {0}) EncryptError)
-    → IsGiven asked entropy spent drawn m → id ≡ drawn_id drawn → start_refusal m asked.max_keys id ≡ None → WritesOrStops m asked.size id input taken gains r
+pub ends_done : (asked : EncryptAsked) (input taken : SourceState) (gains : Gaining) (entropy spent : EntropyState) (drawn : List ℕ) (m : EncMaterialsValue) (id : List ℕ) (r : Result (Unit {0}) EncryptError)
+    → MaterialsWereGiven asked entropy spent drawn m → id ≡ drawn_id drawn → start_refusal m asked.max_keys id ≡ None → WritesOrStops m asked.size id input taken gains r
     → OnOk r (Encrypts asked input taken gains entropy spent)
 ends_done asked input taken gains entropy spent drawn m id (Ok done) given is begins writes = record {
   drawn = drawn;
@@ -43,8 +43,8 @@ ends_done asked input taken gains entropy spent drawn m id (Ok done) given is be
 ends_done asked input taken gains entropy spent drawn m id (Err error) given is begins writes = tt
 
 -- it was not, or not whole
-ends_after : (asked : Asked) (input taken : SourceState) (gains : Gaining) (entropy spent : EntropyState) (drawn : List ℕ) (m : EncMaterialsValue) (untouched unasked : Type 0)
-    (error : EncryptError) → Begins asked entropy spent drawn m → StopsSo m asked.size (drawn_id drawn) input taken gains error
+ends_after : (asked : EncryptAsked) (input taken : SourceState) (gains : Gaining) (entropy spent : EntropyState) (drawn : List ℕ) (m : EncMaterialsValue) (untouched unasked : Type 0)
+    (error : EncryptError) → CanBegin asked entropy spent drawn m → StopsSo m asked.size (drawn_id drawn) input taken gains error
     → EncryptEnds asked input taken gains entropy spent untouched unasked error
 ends_after asked input taken gains entropy spent drawn m untouched unasked (errors.Outside outsides.EntropyFault) started stops = absurd stops
 ends_after asked input taken gains entropy spent drawn m untouched unasked (errors.Outside outsides.KeyringFault) started stops = absurd stops
@@ -55,8 +55,8 @@ ends_after asked input taken gains entropy spent drawn m untouched unasked (erro
 ends_after asked input taken gains entropy spent drawn m untouched unasked (errors.Refusal refusal) started stops = absurd stops
 ends_after asked input taken gains entropy spent drawn m untouched unasked errors.Memory started stops = absurd stops
 
-pub ends_stopped : (asked : Asked) (input taken : SourceState) (gains : Gaining) (entropy spent : EntropyState) (drawn : List ℕ) (m : EncMaterialsValue) (id : List ℕ)
-    (untouched unasked : Type 0) (r : Result (Unit {0}) EncryptError) → IsGiven asked entropy spent drawn m → id ≡ drawn_id drawn → start_refusal m asked.max_keys id ≡ None
+pub ends_stopped : (asked : EncryptAsked) (input taken : SourceState) (gains : Gaining) (entropy spent : EntropyState) (drawn : List ℕ) (m : EncMaterialsValue) (id : List ℕ)
+    (untouched unasked : Type 0) (r : Result (Unit {0}) EncryptError) → MaterialsWereGiven asked entropy spent drawn m → id ≡ drawn_id drawn → start_refusal m asked.max_keys id ≡ None
     → WritesOrStops m asked.size id input taken gains r → IfErr r (EncryptEnds asked input taken gains entropy spent untouched unasked)
 ends_stopped asked input taken gains entropy spent drawn m id untouched unasked (Ok done) given is begins stops = tt
 ends_stopped asked input taken gains entropy spent drawn m id untouched unasked (Err error) given is begins stops =
@@ -78,7 +78,7 @@ of_header false true count end r is = let same : refusals.HeaderTooLong end ≡ 
 of_header false false count end r is = absurd cc
 
 -- a refusal of the header's parts
-ends_refused : (asked : Asked) (input : SourceState) (gains : Gaining) (entropy spent : EntropyState) (drawn : List ℕ) (m : EncMaterialsValue) (untouched unasked : Type 0)
+ends_refused : (asked : EncryptAsked) (input : SourceState) (gains : Gaining) (entropy spent : EntropyState) (drawn : List ℕ) (m : EncMaterialsValue) (untouched unasked : Type 0)
     (refusal : Refusal) → Drew asked.wraps entropy spent drawn → asked.gives (drawn_rest drawn) m → All IsEntry m.entries → start_refusal m asked.max_keys (drawn_id drawn) ≡ Some refusal → untouched
     → IsOfHeader refusal → EncryptEnds asked input input gains entropy spent untouched unasked (errors.Refusal refusal)
 ends_refused asked input gains entropy spent drawn m untouched unasked (refusals.TooManyDataKeys n) drew given each cause same of =
@@ -88,7 +88,7 @@ ends_refused asked input gains entropy spent drawn m untouched unasked (refusals
 ends_refused asked input gains entropy spent drawn m untouched unasked refusal drew given each cause same of = absurd of
 
 -- the same of the error that says so
-ends_with : (asked : Asked) (input : SourceState) (gains : Gaining) (entropy spent : EntropyState) (drawn : List ℕ) (m : EncMaterialsValue) (untouched unasked : Type 0)
+ends_with : (asked : EncryptAsked) (input : SourceState) (gains : Gaining) (entropy spent : EntropyState) (drawn : List ℕ) (m : EncMaterialsValue) (untouched unasked : Type 0)
     (error : EncryptError) → Drew asked.wraps entropy spent drawn → asked.gives (drawn_rest drawn) m → All IsEntry m.entries → untouched
     → BeginsNoMessage (start_refusal m asked.max_keys (drawn_id drawn)) error → EncryptEnds asked input input gains entropy spent untouched unasked error
 ends_with asked input gains entropy spent drawn m untouched unasked (errors.Refusal refusal) drew given each same cause =
@@ -99,8 +99,8 @@ ends_with asked input gains entropy spent drawn m untouched unasked (errors.Refu
 ends_with asked input gains entropy spent drawn m untouched unasked (errors.Outside outside) drew given each same cause = absurd cause
 ends_with asked input gains entropy spent drawn m untouched unasked errors.Memory drew given each same cause = record { drawn = drawn; drew = drew; same = same }
 
-pub ends_unstarted : (asked : Asked) (input : SourceState) (gains : Gaining) (entropy spent : EntropyState) (drawn : List ℕ) (m : EncMaterialsValue) (id : List ℕ) (untouched unasked : Type 0)
-    (error : EncryptError) → IsGiven asked entropy spent drawn m → All IsEntry m.entries → untouched → id ≡ drawn_id drawn
+pub ends_unstarted : (asked : EncryptAsked) (input : SourceState) (gains : Gaining) (entropy spent : EntropyState) (drawn : List ℕ) (m : EncMaterialsValue) (id : List ℕ) (untouched unasked : Type 0)
+    (error : EncryptError) → MaterialsWereGiven asked entropy spent drawn m → All IsEntry m.entries → untouched → id ≡ drawn_id drawn
     → BeginsNoMessage (start_refusal m asked.max_keys id) error → EncryptEnds asked input input gains entropy spent untouched unasked error
 ends_unstarted asked input gains entropy spent drawn m id untouched unasked error given each same is cause =
     ends_with asked input gains entropy spent drawn m untouched unasked error given.drew given.given each same
@@ -110,8 +110,8 @@ ends_unstarted asked input gains entropy spent drawn m id untouched unasked erro
 
 -- A manager refuses with none of those that come of a message.
 pub ends_ungiven : (old new : ManagerNow) (request : EncRequestValue) (now size : ℕ) (max_keys : Option ℕ) (input : SourceState) (gains : Gaining) (entropy spent : EntropyState)
-    (untouched unasked : Type 0) (error : EncryptError) → untouched → IsNotGiven (encryption_of (said_last old new) request now size max_keys) entropy spent unasked error
-    → EncryptEnds (encryption_of (said_last old new) request now size max_keys) input input gains entropy spent untouched unasked error
+    (untouched unasked : Type 0) (error : EncryptError) → untouched → IsNotGiven (encrypting_from (said_last old new) request now size max_keys) entropy spent unasked error
+    → EncryptEnds (encrypting_from (said_last old new) request now size max_keys) input input gains entropy spent untouched unasked error
 ends_ungiven old new request now size max_keys input gains entropy spent untouched unasked (errors.Outside outsides.EntropyFault) same none =
     record { rose = none.rose; kept = none.kept; none = none.none; same = same; manager = none.manager }
 ends_ungiven old new request now size max_keys input gains entropy spent untouched unasked (errors.Outside outsides.KeyringFault) same none =

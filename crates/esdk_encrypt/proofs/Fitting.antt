@@ -26,11 +26,11 @@ use Rattle.keyring_trait.proofs.Made.{length-made}
 use Rattle.whole_input.specs.Taken.{Came}
 use Rattle.esdk_encrypt.specs.declared.errors.EncryptError.{EncryptError}
 use Rattle.esdk_encrypt.specs.declared.errors.EncryptError.TheVariants as errors
-use Rattle.stream_seal.specs.Start.{start_refusal}
-use Rattle.esdk_encrypt.specs.Encrypt.{Asked, EncryptEnds, RefusesStart, SinkFails, drawn_id, drawn_rest}
-use Rattle.esdk_encrypt.specs.Gaining.{Form, gained_as}
-use Rattle.esdk_encrypt.specs.Laws.{FitsMessage, IsWithin, NoObjectFails}
-use Rattle.esdk_encrypt.specs.Told.{NoneFor, Writer, asked_by, materials_of, wraps_of}
+use Rattle.stream_seal.specs.Start.{start_refusal, drawn_id, drawn_rest}
+use Rattle.esdk_encrypt.specs.Encrypt.{EncryptAsked, EncryptEnds, RefusesStart, EncryptSinkFails}
+use Rattle.esdk_encrypt.specs.Gaining.{OutputForm, gained_as}
+use Rattle.esdk_encrypt.specs.Laws.{FitsMessage, WriterIsWithin, NoObjectFails}
+use Rattle.esdk_encrypt.specs.Told.{NoneForRequest, Writer, encrypting_by, drawn_materials, writer_wraps}
 
 -- ---- a header of at most 64 entries is short
 
@@ -69,7 +69,7 @@ few_came input taken bytes text told came = consumed_few taken.left bytes text (
 -- ---- why a run ended
 
 -- What is asked for is granted: only want of memory keeps the manager from giving materials; these have a context and an entry for each wrap; and so many are allowed.
-pub record IsGranted (asked : Asked) : Type 0 where
+pub record IsGranted (asked : EncryptAsked) : Type 0 where
   pub none : (error : ManagerError) → asked.gives_none error → error ≡ managers.Memory
   pub context : (random : List ℕ) (m : EncMaterialsValue) → asked.gives random m → IsContext m.context
   pub count : (random : List ℕ) (m : EncMaterialsValue) → asked.gives random m → length m.entries ≡ asked.wraps
@@ -77,7 +77,7 @@ pub record IsGranted (asked : Asked) : Type 0 where
   pub allowed : IfSome asked.max_keys (λ most. asked.wraps ≤ most)
 
 -- no start is refused
-start_not_refused : (asked : Asked) (entropy spent : EntropyState) (refusal : Refusal) (untouched : Type 0) → IsGranted asked → RefusesStart asked entropy spent refusal untouched → ⊥
+start_not_refused : (asked : EncryptAsked) (entropy spent : EntropyState) (refusal : Refusal) (untouched : Type 0) → IsGranted asked → RefusesStart asked entropy spent refusal untouched → ⊥
 start_not_refused asked entropy spent refusal untouched granted refuses =
     let m : EncMaterialsValue = refuses.materials in
     let random : List ℕ = drawn_rest refuses.drawn in
@@ -89,7 +89,7 @@ start_not_refused asked entropy spent refusal untouched granted refuses =
     let refused : Some refusal ≡ None = sym refuses.cause ∙ begins in cc
 
 -- a count of faults rose, wherever a sink failed
-sink_rose : (form : Form) (m : EncMaterialsValue) (size : ℕ) (id : List ℕ) (input taken : SourceState) (output put : SinkState) → SinkFails m size id input taken (gained_as form output put)
+sink_rose : (form : OutputForm) (m : EncMaterialsValue) (size : ℕ) (id : List ℕ) (input taken : SourceState) (output put : SinkState) → EncryptSinkFails m size id input taken (gained_as form output put)
     → Rose output.faults put.faults
 sink_rose form m size id input taken output put fails = elim fails.at [
   | inl header ↦ header.stopped.1
@@ -98,7 +98,7 @@ sink_rose form m size id input taken output put fails = elim fails.at [
 ]
 
 -- where the input fits and nothing fails, only want of memory ends an encryption
-pub only_memory_ends : (form : Form) (asked : Asked) (text : List ℕ) (input taken : SourceState) (output put : SinkState) (entropy spent : EntropyState) (untouched unasked : Type 0) (error : EncryptError)
+pub only_memory_ends : (form : OutputForm) (asked : EncryptAsked) (text : List ℕ) (input taken : SourceState) (output put : SinkState) (entropy spent : EntropyState) (untouched unasked : Type 0) (error : EncryptError)
     → IsGranted asked → FitsMessage asked.size input text → NoObjectFails input taken output put entropy spent
     → EncryptEnds asked input taken (gained_as form output put) entropy spent untouched unasked error → error ≡ errors.Memory
 only_memory_ends form asked text input taken output put entropy spent untouched unasked (errors.Outside outsides.EntropyFault) granted fits nothing ends =
@@ -127,7 +127,7 @@ only_memory_ends form asked text input taken output put entropy spent untouched 
 -- ---- keys that are told
 
 -- of a request that isn't refused, where no keyring failed
-pub unrefused_memory : (old new : ℕ) (error : ManagerError) → Stayed old new → NoneFor None old new error → error ≡ managers.Memory
+pub unrefused_memory : (old new : ℕ) (error : ManagerError) → Stayed old new → NoneForRequest None old new error → error ≡ managers.Memory
 unrefused_memory old new (managers.Fault fault) stayed cause = absurd cause
 unrefused_memory old new (managers.Refusal refusal) stayed cause = absurd (let refused : None ≡ Some refusal = cause in cc)
 unrefused_memory old new managers.KeyringFault stayed cause = absurd (omega (arith, stayed, cause.1))
@@ -137,10 +137,10 @@ length-ivs_of : (n : ℕ) (bytes : List ℕ) → length (ivs_of n bytes) ≡ n
 length-ivs_of zero bytes = refl
 length-ivs_of (suc n) bytes = ap suc (length-ivs_of n (drop 12 bytes))
 
-pub told_granted : (writer : Writer) (old new : ℕ) → IsWithin writer → Stayed old new → IsGranted (asked_by writer None old new)
+pub told_granted : (writer : Writer) (old new : ℕ) → WriterIsWithin writer → Stayed old new → IsGranted (encrypting_by writer None old new)
 told_granted writer old new within stayed =
-    let count : (random : List ℕ) → length (materials_of writer random).entries ≡ wraps_of writer =
-    λ random. length-made writer.keys writer.context (take 32 random) (ivs_of (wraps_of writer) (drop 32 random)) (length-ivs_of (wraps_of writer) (drop 32 random)) in
+    let count : (random : List ℕ) → length (drawn_materials writer random).entries ≡ writer_wraps writer =
+    λ random. length-made writer.keys writer.context (take 32 random) (ivs_of (writer_wraps writer) (drop 32 random)) (length-ivs_of (writer_wraps writer) (drop 32 random)) in
     record {
       none = λ error cause. unrefused_memory old new error stayed cause;
       context = λ random m given. subst (λ (v : EncMaterialsValue). IsContext v.context) (sym given.1) within.context;

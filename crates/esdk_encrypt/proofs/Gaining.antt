@@ -3,11 +3,11 @@ use Rattle.std.proofs.Common.{◌≡◌, ◌∙◌, ℕ, List, ◌++◌, length,
 use Rattle.std.specs.Io.KnownBytes.{Appends, Consumes, IsAtEnd}
 use Rattle.esdk_base.specs.Streams.{EntropyState, OnTold, SinkState, SourceState}
 use Rattle.esdk_fields.specs.declared.refusals.Refusal.{Refusal}
-use Rattle.stream_seal.specs.Start.{message_of}
-use Rattle.esdk_encrypt.specs.Encrypt.{Encrypts, drawn_id}
-use Rattle.esdk_encrypt.specs.Gaining.{Form, Whole, gained_as}
+use Rattle.stream_seal.specs.Start.{message_of, drawn_id}
+use Rattle.esdk_encrypt.specs.Encrypt.{Encrypts}
+use Rattle.esdk_encrypt.specs.Gaining.{OutputForm, Whole, gained_as}
 use Rattle.esdk_encrypt.specs.Laws.{GainsMessage, SealsWhatCame}
-use Rattle.esdk_encrypt.specs.Told.{Writer, asked_by, message_by}
+use Rattle.esdk_encrypt.specs.Told.{Writer, encrypting_by, message_by}
 
 -- what was consumed of told bytes is their front
 consumed_first : (old new : Option (List ℕ)) (bytes : List ℕ) → Consumes old new bytes → OnTold old (λ coming. bytes ≡ take (length bytes) coming)
@@ -25,8 +25,8 @@ appended_told : (now : Option (List ℕ)) (before bytes : List ℕ) → Appends 
 appended_told None before bytes appended = absurd appended
 appended_told (Some written) before bytes appended = ap Some appended
 
-pub gains_message : (form : Form) (writer : Writer) (refusal : Option Refusal) (old new : ℕ) (text before : List ℕ) (input taken : SourceState) (output put : SinkState) (entropy spent : EntropyState)
-    → input.left ≡ Some text → output.written ≡ Some before → Encrypts (asked_by writer refusal old new) input taken (gained_as form output put) entropy spent
+pub gains_message : (form : OutputForm) (writer : Writer) (refusal : Option Refusal) (old new : ℕ) (text before : List ℕ) (input taken : SourceState) (output put : SinkState) (entropy spent : EntropyState)
+    → input.left ≡ Some text → output.written ≡ Some before → Encrypts (encrypting_by writer refusal old new) input taken (gained_as form output put) entropy spent
     → GainsMessage form writer text before entropy put
 gains_message form writer refusal old new text before input taken output put entropy spent left written encrypts =
     let drawn : List ℕ = encrypts.drawn in
@@ -47,8 +47,8 @@ gains_message form writer refusal old new text before input taken output put ent
     }
 
 -- what went through: the text that came is sealed with the bytes drawn
-pub seals_what_came : (form : Form) (writer : Writer) (refusal : Option Refusal) (old new : ℕ) (input taken : SourceState) (output put : SinkState) (entropy spent : EntropyState)
-    → Encrypts (asked_by writer refusal old new) input taken (gained_as form output put) entropy spent
+pub seals_what_came : (form : OutputForm) (writer : Writer) (refusal : Option Refusal) (old new : ℕ) (input taken : SourceState) (output put : SinkState) (entropy spent : EntropyState)
+    → Encrypts (encrypting_by writer refusal old new) input taken (gained_as form output put) entropy spent
     → SealsWhatCame form writer input taken output put entropy spent
 seals_what_came form writer refusal old new input taken output put entropy spent encrypts =
     let drawn : List ℕ = encrypts.drawn in

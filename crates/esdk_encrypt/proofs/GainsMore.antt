@@ -1,18 +1,19 @@
 -- What an output gained by one account, and what follows by another that says less.
 use Rattle.std.proofs.Common.{◌≡◌, ◌≤◌, ℕ, List, ◌++◌, inl, inr}
+use Rattle.stream_seal.specs.Start.{drawn_id}
 use Rattle.esdk_base.specs.Streams.{EntropyState, SourceState}
 use Rattle.esdk_fields.specs.declared.refusals.Outside.TheVariants as outsides
 use Rattle.esdk_fields.specs.declared.refusals.Refusal.TheVariants as refusals
 use Rattle.keyring_trait.specs.Materials.{EncMaterialsValue}
 use Rattle.esdk_encrypt.specs.declared.errors.EncryptError.{EncryptError}
 use Rattle.esdk_encrypt.specs.declared.errors.EncryptError.TheVariants as errors
-use Rattle.esdk_encrypt.specs.Encrypt.{Asked, Encrypts, EncryptEnds, EndsAfter, SinkFails, StopsSo, drawn_id}
+use Rattle.esdk_encrypt.specs.Encrypt.{EncryptAsked, Encrypts, EncryptEnds, EndsAfter, EncryptSinkFails, StopsSo}
 use Rattle.esdk_encrypt.specs.Gaining.{Extent, Front, Gaining, Whole}
 use Rattle.esdk_encrypt.proofs.Sessions.{more_follows}
 
 -- ---- a message that was taken whole
 
-module _ (from to : Gaining) (asked : Asked) (input taken : SourceState) (entropy spent : EntropyState) (encrypts : Encrypts asked input taken from entropy spent) where
+module _ (from to : Gaining) (asked : EncryptAsked) (input taken : SourceState) (entropy spent : EntropyState) (encrypts : Encrypts asked input taken from entropy spent) where
   pub encrypts_as : ((bytes : List ℕ) → from.took Whole bytes → to.took Whole bytes) → Encrypts asked input taken to entropy spent
   encrypts_as more = record {
     drawn = encrypts.drawn;
@@ -50,7 +51,7 @@ module _ (from to : Gaining) (asked : Asked) (input taken : SourceState) (entrop
 module _ (from to : Gaining) (took : (bytes : List ℕ) → from.took Front bytes → to.took Front bytes)
     (stopped : (extent : Extent) (first all : List ℕ) → from.stopped extent first all → to.stopped extent first all) (input taken : SourceState) where
   module _ (m : EncMaterialsValue) (size : ℕ) (id : List ℕ) where
-    sink_as : SinkFails m size id input taken from → SinkFails m size id input taken to
+    sink_as : EncryptSinkFails m size id input taken from → EncryptSinkFails m size id input taken to
     sink_as fails = record {
       text = fails.text;
       came = fails.came;
@@ -78,11 +79,11 @@ module _ (from to : Gaining) (took : (bytes : List ℕ) → from.took Front byte
         record { text = stops.text; came = stops.came; faults = stops.faults; many = stops.many; last = stops.last; gained = took _ stops.gained }
     stops_as error stops = absurd stops
 
-  after_as : (asked : Asked) (entropy spent : EntropyState) (error : EncryptError) → EndsAfter asked input taken from entropy spent error → EndsAfter asked input taken to entropy spent error
+  after_as : (asked : EncryptAsked) (entropy spent : EntropyState) (error : EncryptError) → EndsAfter asked input taken from entropy spent error → EndsAfter asked input taken to entropy spent error
   after_as asked entropy spent error ends =
       record { drawn = ends.drawn; materials = ends.materials; started = ends.started; stops = stops_as ends.materials asked.size (drawn_id ends.drawn) error ends.stops }
 
-  pub ends_as : (asked : Asked) (entropy spent : EntropyState) (untouched unasked : Type 0) (error : EncryptError) → EncryptEnds asked input taken from entropy spent untouched unasked error
+  pub ends_as : (asked : EncryptAsked) (entropy spent : EntropyState) (untouched unasked : Type 0) (error : EncryptError) → EncryptEnds asked input taken from entropy spent untouched unasked error
       → EncryptEnds asked input taken to entropy spent untouched unasked error
   ends_as asked entropy spent untouched unasked (errors.Outside outsides.EntropyFault) ends = ends
   ends_as asked entropy spent untouched unasked (errors.Outside outsides.KeyringFault) ends = ends
@@ -108,7 +109,7 @@ module _ (gains : Gaining) (So : Type 0) (took : (extent : Extent) (bytes : List
   stops_so m size id (errors.Refusal refusals.TooManyFrames) stops = took Front _ stops.gained
   stops_so m size id error stops = absurd stops
 
-  pub ends_so : (asked : Asked) (entropy spent : EntropyState) (untouched unasked : Type 0) (error : EncryptError) → (untouched → So)
+  pub ends_so : (asked : EncryptAsked) (entropy spent : EntropyState) (untouched unasked : Type 0) (error : EncryptError) → (untouched → So)
       → EncryptEnds asked input taken gains entropy spent untouched unasked error → So
   ends_so asked entropy spent untouched unasked (errors.Outside outsides.EntropyFault) same ends = same ends.same
   ends_so asked entropy spent untouched unasked (errors.Outside outsides.KeyringFault) same ends = same ends.same

@@ -11,23 +11,23 @@ use Rattle.keyring_trait.specs.Materials.{EncMaterialsValue}
 use Rattle.stream_seal.specs.declared.errors.SealError.TheVariants as seals
 use Rattle.stream_seal.specs.declared.session.Sealer.{Sealer}
 use Rattle.stream_seal.specs.Feeding.{IsFeeding, fed_out, feed_refusal, frames_given}
-use Rattle.stream_seal.specs.Receiving.{FedUntil, FeedsPiece}
+use Rattle.stream_seal.specs.Receiving.{SealerFedUntil, FeedsSealerPiece}
 use Rattle.stream_seal.specs.Session.{SealingValue}
 use Rattle.stream_seal.specs.Stands.{Stands}
 use Rattle.stream_seal.specs.Start.{most_frames, most_text, start_of}
 use Rattle.stream_seal.proofs.Feeding.{is_feeding, refuses_piece}
 use Rattle.stream_seal.proofs.GivenFrames.{frames_of_most}
-use Rattle.whole_input.specs.Taken.{Came, EndSeen, Piece}
+use Rattle.whole_input.specs.Taken.{Came, EndSeen, PieceCame}
 use Rattle.whole_input.specs.declared.pieces.End.{End}
 use Rattle.whole_input.specs.declared.pieces.End.TheVariants as ends
 use Rattle.whole_input.specs.Pieces.{NextPiece, PiecesValue, most_piece}
 use Rattle.whole_input.proofs.Coming.{came_more, came_none, came_still}
 use Rattle.esdk_encrypt.specs.declared.errors.EncryptError.{EncryptError}
 use Rattle.esdk_encrypt.specs.declared.errors.EncryptError.TheVariants as errors
-use Rattle.esdk_encrypt.specs.Encrypt.{HasTooMany, IsTooLong, SourceFails, StopsSo, header_and_frames, written_so_far}
+use Rattle.esdk_encrypt.specs.Encrypt.{EncryptNeedsTooManyFrames, EncryptInputIsTooLong, EncryptSourceFails, StopsSo, header_and_frames, written_so_far}
 use Rattle.esdk_encrypt.specs.Gaining.{gaining}
-pub use Rattle.esdk_encrypt.specs.Gaining.{sink_fails, sink_takes}
-use Rattle.esdk_encrypt.specs.Writing.{FedInto, IsNamed, WritesAs, session_of}
+pub use Rattle.esdk_encrypt.specs.Gaining.{sink_fails}
+use Rattle.esdk_encrypt.specs.Writing.{FedInto, IsNamed, WritesAs, sealing_of_text}
 use Rattle.esdk_encrypt.proofs.Sessions.{frames_beyond, gains_more, is_fed, names_frames, room_then, session_then, written_none}
 
 -- ---- the input so far
@@ -39,7 +39,7 @@ pub record FeedingInput {R : Type 0} (takes : R → R → List ℕ → Type 0) (
   pub faults : now.faults ≡ input.faults
   pub count_is : count ≡ length text
   pub short : length text ≤ most_text size
-  pub stands : Stands sealer (session_of m size id text)
+  pub stands : Stands sealer (sealing_of_text m size id text)
   pub gained : takes output put (written_so_far m size id text)
 
 -- The whole input was fed, and the receiver took what is written while it goes on.
@@ -48,7 +48,7 @@ pub record IsFedInput {R : Type 0} (takes : R → R → List ℕ → Type 0) (m 
   pub came : Came input taken text
   pub end : EndSeen input taken text
   pub short : length text ≤ most_text size
-  pub stands : Stands sealer (session_of m size id text)
+  pub stands : Stands sealer (sealing_of_text m size id text)
   pub gained : takes output put (written_so_far m size id text)
 
 -- where no piece came, no more was given
@@ -59,7 +59,7 @@ ended_most count now next v ends.TooLong came = omega (arith, ap (λ (s : Source
 
 module _ {R : Type 0} (takes : R → R → List ℕ → Type 0) (m : EncMaterialsValue) (size : ℕ) (id : List ℕ) (wide : 1 ≤ size) where
   -- the header was put
-  pub feeding_none : (input : SourceState) (output put : R) (sealer : Sealer) (count : ℕ) (header : List ℕ) → header ≡ start_of m size id → Stands sealer (session_of m size id [])
+  pub feeding_none : (input : SourceState) (output put : R) (sealer : Sealer) (count : ℕ) (header : List ℕ) → header ≡ start_of m size id → Stands sealer (sealing_of_text m size id [])
       → takes output put header → count ≡ 0 → FeedingInput takes m size id input input output put sealer count
   feeding_none input output put sealer count header is stands gained none = record {
     text = [];
@@ -85,7 +85,7 @@ module _ {R : Type 0} (takes : R → R → List ℕ → Type 0) (m : EncMaterial
       gained = feeding.gained;
     }
 
-    pub input_fails : (next : SourceState) → Came now next [] → Rose now.faults next.faults → SourceFails m size id input next (gaining takes fails output mid)
+    pub input_fails : (next : SourceState) → Came now next [] → Rose now.faults next.faults → EncryptSourceFails m size id input next (gaining takes fails output mid)
     input_fails next none rose = record {
       text = feeding.text;
       came = came_still input now next feeding.text feeding.came none;
@@ -94,8 +94,8 @@ module _ {R : Type 0} (takes : R → R → List ℕ → Type 0) (m : EncMaterial
       gained = feeding.gained;
     }
 
-    pub input_long : (next : SourceState) → next ≡ now → count ≡ 2 ^ 62 → IsTooLong m size id input next (gaining takes fails output mid)
-    input_long next same many = subst (λ (s : SourceState). IsTooLong m size id input s (gaining takes fails output mid)) (sym same) (record {
+    pub input_long : (next : SourceState) → next ≡ now → count ≡ 2 ^ 62 → EncryptInputIsTooLong m size id input next (gaining takes fails output mid)
+    input_long next same many = subst (λ (s : SourceState). EncryptInputIsTooLong m size id input s (gaining takes fails output mid)) (sym same) (record {
       text = feeding.text;
       came = feeding.came;
       most = record { faults = feeding.faults; count = omega (arith, many, feeding.count_is) };
@@ -106,27 +106,27 @@ module _ {R : Type 0} (takes : R → R → List ℕ → Type 0) (m : EncMaterial
     -- ---- a piece came
 
     module _ (piece : List ℕ) (put : R) (new : Sealer) where
-      fed_then : (r : FedInto E) → ((v : SealingValue) → Stands old v → IsFeeding v piece → FeedsPiece takes fails v piece mid put new r)
-          → FeedsPiece takes fails (session_of m size id feeding.text) piece mid put new r
-      fed_then r feeds = feeds (session_of m size id feeding.text) feeding.stands
-          (is_feeding (session_of m size id feeding.text) piece (is_fed m size id feeding.text wide feeding.short))
+      fed_then : (r : FedInto E) → ((v : SealingValue) → Stands old v → IsFeeding v piece → FeedsSealerPiece takes fails v piece mid put new r)
+          → FeedsSealerPiece takes fails (sealing_of_text m size id feeding.text) piece mid put new r
+      fed_then r feeds = feeds (sealing_of_text m size id feeding.text) feeding.stands
+          (is_feeding (sealing_of_text m size id feeding.text) piece (is_fed m size id feeding.text wide feeding.short))
 
-      names : (v : SealingValue) (r : FedInto E) → FeedsPiece takes fails v piece mid put new r → IsNamed r
+      names : (v : SealingValue) (r : FedInto E) → FeedsSealerPiece takes fails v piece mid put new r → IsNamed r
       names v (Ok done) feeds = tt
       names v (Err (fed_errors.Receiver failed)) feeds = tt
       names v (Err (fed_errors.Machine (seals.Refusal refusal))) feeds = tt
       names v (Err (fed_errors.Machine error)) feeds = absurd feeds
 
       -- its sealer fails only with a refusal
-      pub feeding_names : (r : FedInto E) → ((v : SealingValue) → Stands old v → IsFeeding v piece → FeedsPiece takes fails v piece mid put new r) → IsNamed r
-      feeding_names r feeds = names (session_of m size id feeding.text) r (fed_then r feeds)
+      pub feeding_names : (r : FedInto E) → ((v : SealingValue) → Stands old v → IsFeeding v piece → FeedsSealerPiece takes fails v piece mid put new r) → IsNamed r
+      feeding_names r feeds = names (sealing_of_text m size id feeding.text) r (fed_then r feeds)
 
-      module _ (takes_more : (r s t : R) (xs ys : List ℕ) → takes r s xs → takes s t ys → takes r t (xs ++ ys)) (next : SourceState) (came : Piece most_piece now next piece) where
+      module _ (takes_more : (r s t : R) (xs ys : List ℕ) → takes r s xs → takes s t ys → takes r t (xs ++ ys)) (next : SourceState) (came : PieceCame most_piece now next piece) where
         came_then : Came input next (feeding.text ++ piece)
         came_then = came_more input now next feeding.text piece feeding.came came.came
 
         pub feeding_more : (r : FedInto E) (sum : ℕ) → sum ≡ count + length piece → WritesAs r (Ok tt)
-            → ((v : SealingValue) → Stands old v → IsFeeding v piece → FeedsPiece takes fails v piece mid put new r)
+            → ((v : SealingValue) → Stands old v → IsFeeding v piece → FeedsSealerPiece takes fails v piece mid put new r)
             → FeedingInput takes m size id input next output put new sum
         feeding_more (Ok done) sum sum_is writes feeds =
             let fed = fed_then (Ok done) feeds in
@@ -146,12 +146,12 @@ module _ {R : Type 0} (takes : R → R → List ℕ → Type 0) (m : EncMaterial
         feeding_more (Err (fed_errors.Machine error)) sum sum_is writes feeds = absurd writes
 
         -- a byte came for which there is no room
-        too_many : (refusal : Refusal) → feed_refusal (session_of m size id feeding.text) piece ≡ Some refusal → refusal ≡ refusals.TooManyFrames
-            → takes mid put (fed_out (session_of m size id feeding.text) piece) → HasTooMany m size id input next (gaining takes fails output put)
+        too_many : (refusal : Refusal) → feed_refusal (sealing_of_text m size id feeding.text) piece ≡ Some refusal → refusal ≡ refusals.TooManyFrames
+            → takes mid put (fed_out (sealing_of_text m size id feeding.text) piece) → EncryptNeedsTooManyFrames m size id input next (gaining takes fails output put)
         too_many refusal why named gained =
             let all : List ℕ = feeding.text ++ piece in
             let most : ℕ = most_text size in
-            let many : most < length all = ((refuses_piece (session_of m size id feeding.text) piece).many.0 (why ∙ ap Some named)).1 in
+            let many : most < length all = ((refuses_piece (sealing_of_text m size id feeding.text) piece).many.0 (why ∙ ap Some named)).1 in
             let long : length (take most all) ≡ most = omega (arith, length-take most all, many) in
             let frames : frames_given (length (take most all)) size ≡ most_frames - 1 = ap (λ (n : ℕ). frames_given n size) long ∙ frames_of_most size wide in
             record {
@@ -165,7 +165,7 @@ module _ {R : Type 0} (takes : R → R → List ℕ → Type 0) (m : EncMaterial
             }
 
         -- the receiver failed at some of what the piece gives
-        put_fails : (failed : E) → FedUntil fails (session_of m size id feeding.text) piece failed mid put new
+        put_fails : (failed : E) → SealerFedUntil fails (sealing_of_text m size id feeding.text) piece failed mid put new
             → StopsSo m size id input next (gaining takes fails output put) (errors.Outside outsides.SinkFault)
         put_fails failed fed = record {
           text = feeding.text ++ piece;
@@ -185,7 +185,7 @@ module _ {R : Type 0} (takes : R → R → List ℕ → Type 0) (m : EncMaterial
         }
 
         pub feeding_fails : (r : FedInto E) (error : EncryptError) → WritesAs r (Err error)
-            → ((v : SealingValue) → Stands old v → IsFeeding v piece → FeedsPiece takes fails v piece mid put new r)
+            → ((v : SealingValue) → Stands old v → IsFeeding v piece → FeedsSealerPiece takes fails v piece mid put new r)
             → StopsSo m size id input next (gaining takes fails output put) error
         feeding_fails (Ok done) error writes feeds = absurd cc
         feeding_fails (Err (fed_errors.Receiver failed)) error writes feeds =

@@ -1,6 +1,7 @@
 -- A run over an exact and plain manager that tells its keys: what is so over any manager, and what these keys make of it.
 use Rattle.std.proofs.Common.{◌≡◌, ◌∙◌, ℕ, true, List, length, take, drop, Option, Result, OnOk, IfErr, refl, sym, subst}
 use Rattle.std.proofs.lemmas.Result.{on_ok_weaker, IfErr-weaker}
+use Rattle.stream_seal.specs.Start.{drawn_id, drawn_rest}
 use Rattle.esdk_base.specs.Streams.{EntropyState, SourceState}
 use Rattle.esdk_fields.specs.declared.refusals.Outside.TheVariants as outsides
 use Rattle.esdk_fields.specs.declared.refusals.Refusal.{Refusal}
@@ -13,29 +14,28 @@ use Rattle.keyring_trait.specs.Manager.{ManagerNow, AreDrawn, GivesMaterials, Gi
 use Rattle.keyring_trait.specs.Requests.{EncRequestValue}
 use Rattle.keyring_trait.specs.Saying.{said_last}
 use Rattle.keyring_trait.specs.Materials.{EncMaterialsValue}
-use Rattle.keyring_trait.specs.Requests.{EncRequestValue}
 use Rattle.keyring_trait.specs.Wrapping.{WrapKeyValue, active, ivs_of, made}
 use Rattle.esdk_encrypt.specs.declared.errors.EncryptError.{EncryptError}
 use Rattle.esdk_encrypt.specs.declared.errors.EncryptError.TheVariants as errors
 pub use Rattle.esdk_encrypt.specs.Asking.{CountsWraps}
-use Rattle.esdk_encrypt.specs.Encrypt.{Asked, Begins, Drew, Encrypts, EndsAfter, EncryptEnds, GivesNothing, HasNoMemory, RefusesStart, StopsSo, Writes, encryption_of, drawn_id, drawn_rest}
+use Rattle.esdk_encrypt.specs.Encrypt.{EncryptAsked, CanBegin, Drew, Encrypts, EndsAfter, EncryptEnds, ManagerGivesNothing, EncryptLacksMemory, RefusesStart, StopsSo, WritesMessage, encrypting_from}
 use Rattle.esdk_encrypt.specs.Gaining.{Gaining}
-use Rattle.esdk_encrypt.specs.Told.{asked_told, materials_of, writer_of}
+use Rattle.esdk_encrypt.specs.Told.{asked_told, drawn_materials, writer_of}
 
 -- ---- runs about the same, of which one says more
 
 -- What is given as the first says is given as the second says, and the rest is the same.
-pub record SaysMore (a b : Asked) : Type 0 where
+pub record SaysMore (a b : EncryptAsked) : Type 0 where
   pub wraps : a.wraps ≡ b.wraps
   pub gives : (random : List ℕ) (m : EncMaterialsValue) → a.gives random m → b.gives random m
   pub gives_none : (error : ManagerError) → a.gives_none error → b.gives_none error
   pub size : a.size ≡ b.size
   pub max_keys : a.max_keys ≡ b.max_keys
 
-drew_more : (a b : Asked) (entropy spent : EntropyState) (drawn : List ℕ) → SaysMore a b → Drew a.wraps entropy spent drawn → Drew b.wraps entropy spent drawn
+drew_more : (a b : EncryptAsked) (entropy spent : EntropyState) (drawn : List ℕ) → SaysMore a b → Drew a.wraps entropy spent drawn → Drew b.wraps entropy spent drawn
 drew_more a b entropy spent drawn more drew = subst (λ (n : ℕ). Drew n entropy spent drawn) more.wraps drew
 
-begins_more : (a b : Asked) (entropy spent : EntropyState) (drawn : List ℕ) (m : EncMaterialsValue) → SaysMore a b → Begins a entropy spent drawn m → Begins b entropy spent drawn m
+begins_more : (a b : EncryptAsked) (entropy spent : EntropyState) (drawn : List ℕ) (m : EncMaterialsValue) → SaysMore a b → CanBegin a entropy spent drawn m → CanBegin b entropy spent drawn m
 begins_more a b entropy spent drawn m more started = record {
   drew = drew_more a b entropy spent drawn more started.drew;
   given = more.gives (drawn_rest drawn) m started.given;
@@ -43,17 +43,17 @@ begins_more a b entropy spent drawn m more started = record {
 }
 
 -- the whole input was encrypted
-pub encrypts_more : (a b : Asked) (input taken : SourceState) (gains : Gaining) (entropy spent : EntropyState) → SaysMore a b
+pub encrypts_more : (a b : EncryptAsked) (input taken : SourceState) (gains : Gaining) (entropy spent : EntropyState) → SaysMore a b
     → Encrypts a input taken gains entropy spent → Encrypts b input taken gains entropy spent
 encrypts_more a b input taken gains entropy spent more encrypts = record {
   drawn = encrypts.drawn;
   materials = encrypts.materials;
   started = begins_more a b entropy spent encrypts.drawn encrypts.materials more encrypts.started;
-  writes = subst (λ (n : ℕ). Writes encrypts.materials n (drawn_id encrypts.drawn) input taken gains) more.size encrypts.writes;
+  writes = subst (λ (n : ℕ). WritesMessage encrypts.materials n (drawn_id encrypts.drawn) input taken gains) more.size encrypts.writes;
 }
 
 -- it was not, or not whole
-after_more : (a b : Asked) (input taken : SourceState) (gains : Gaining) (entropy spent : EntropyState) (error : EncryptError) → SaysMore a b
+after_more : (a b : EncryptAsked) (input taken : SourceState) (gains : Gaining) (entropy spent : EntropyState) (error : EncryptError) → SaysMore a b
     → EndsAfter a input taken gains entropy spent error → EndsAfter b input taken gains entropy spent error
 after_more a b input taken gains entropy spent error more ends = record {
   drawn = ends.drawn;
@@ -62,8 +62,8 @@ after_more a b input taken gains entropy spent error more ends = record {
   stops = subst (λ (n : ℕ). StopsSo ends.materials n (drawn_id ends.drawn) input taken gains error) more.size ends.stops;
 }
 
-nothing_more : (a b : Asked) (entropy spent : EntropyState) (error : ManagerError) (untouched : Type 0) → SaysMore a b
-    → GivesNothing a entropy spent error untouched → GivesNothing b entropy spent error untouched
+nothing_more : (a b : EncryptAsked) (entropy spent : EntropyState) (error : ManagerError) (untouched : Type 0) → SaysMore a b
+    → ManagerGivesNothing a entropy spent error untouched → ManagerGivesNothing b entropy spent error untouched
 nothing_more a b entropy spent error untouched more ends = record {
   drawn = ends.drawn;
   drew = drew_more a b entropy spent ends.drawn more ends.drew;
@@ -71,7 +71,7 @@ nothing_more a b entropy spent error untouched more ends = record {
   same = ends.same;
 }
 
-start_more : (a b : Asked) (entropy spent : EntropyState) (refusal : Refusal) (untouched : Type 0) → SaysMore a b
+start_more : (a b : EncryptAsked) (entropy spent : EntropyState) (refusal : Refusal) (untouched : Type 0) → SaysMore a b
     → RefusesStart a entropy spent refusal untouched → RefusesStart b entropy spent refusal untouched
 start_more a b entropy spent refusal untouched more ends = record {
   drawn = ends.drawn;
@@ -83,11 +83,11 @@ start_more a b entropy spent refusal untouched more ends = record {
   same = ends.same;
 }
 
-memory_more : (a b : Asked) (entropy spent : EntropyState) (untouched : Type 0) → SaysMore a b → HasNoMemory a entropy spent untouched → HasNoMemory b entropy spent untouched
+memory_more : (a b : EncryptAsked) (entropy spent : EntropyState) (untouched : Type 0) → SaysMore a b → EncryptLacksMemory a entropy spent untouched → EncryptLacksMemory b entropy spent untouched
 memory_more a b entropy spent untouched more ends =
     record { drawn = ends.drawn; drew = drew_more a b entropy spent ends.drawn more ends.drew; same = ends.same }
 
-pub ends_more : (a b : Asked) (input taken : SourceState) (gains : Gaining) (entropy spent : EntropyState) (untouched unasked : Type 0) (error : EncryptError) → SaysMore a b
+pub ends_more : (a b : EncryptAsked) (input taken : SourceState) (gains : Gaining) (entropy spent : EntropyState) (untouched unasked : Type 0) (error : EncryptError) → SaysMore a b
     → EncryptEnds a input taken gains entropy spent untouched unasked error → EncryptEnds b input taken gains entropy spent untouched unasked error
 ends_more a b input taken gains entropy spent untouched unasked (errors.Outside outsides.EntropyFault) more ends = ends
 ends_more a b input taken gains entropy spent untouched unasked (errors.Outside outsides.KeyringFault) more ends =
@@ -116,7 +116,7 @@ pub record IsTold (keys : List WrapKeyValue) (n : ManagerNow) : Type 0 where
 -- its materials are those of the keys
 materials_told : (keys : List WrapKeyValue) (old : ManagerNow) (request : EncRequestValue) (size : ℕ) (max_keys : Option ℕ)
     (random : List ℕ) (m : EncMaterialsValue) → IsTold keys old → GivesMaterials old request random m
-    → m ≡ materials_of (writer_of keys old.meaning request size max_keys) random
+    → m ≡ drawn_materials (writer_of keys old.meaning request size max_keys) random
 materials_told keys old request size max_keys random m is given =
     let direct : m.served ≡ Direct = given.plain is.plain in
     let drawn : AreDrawn old.meaning.wraps old.tells random m = given.fresh is.fresh (subst (λ (s : Served). IsNew s) (sym direct) tt) in
@@ -134,8 +134,8 @@ none_told keys old new request size max_keys managers.KeyringFault is_exact caus
 none_told keys old new request size max_keys managers.Memory is_exact cause = tt
 
 -- what a manager is asked between these moments, and what over the keys that it tells
-abbrev asked_between : ManagerNow → ManagerNow → EncRequestValue → ℕ → ℕ → Option ℕ → Asked
-asked_between old new request now size max_keys = encryption_of (said_last old new) request now size max_keys
+abbrev asked_between : ManagerNow → ManagerNow → EncRequestValue → ℕ → ℕ → Option ℕ → EncryptAsked
+asked_between old new request now size max_keys = encrypting_from (said_last old new) request now size max_keys
 
 pub told_more : (keys : List WrapKeyValue) (old new : ManagerNow) (request : EncRequestValue) (now size : ℕ) (max_keys : Option ℕ)
     → IsTold keys old → SaysMore (asked_between old new request now size max_keys) (asked_told keys old.meaning new.meaning request size max_keys)
@@ -157,8 +157,8 @@ module _ (old new : ManagerNow) (request : EncRequestValue) (now size : ℕ) (ma
       → (keys : List WrapKeyValue) → old.tells keys → old.exact → old.meaning.plain ≡ true
       → OnOk r (Encrypts (asked_told keys old.meaning new.meaning request size max_keys) input taken gains entropy spent)
   writes_told r counts done keys told is_exact plain =
-      let a : Asked = asked_between old new request now size max_keys in
-      let b : Asked = asked_told keys old.meaning new.meaning request size max_keys in
+      let a : EncryptAsked = asked_between old new request now size max_keys in
+      let b : EncryptAsked = asked_told keys old.meaning new.meaning request size max_keys in
       let more : SaysMore a b = told_more keys old new request now size max_keys (is_told keys old counts told is_exact plain) in
       on_ok_weaker r (encrypts_more a b input taken gains entropy spent more) done
 
@@ -167,8 +167,8 @@ module _ (old new : ManagerNow) (request : EncRequestValue) (now size : ℕ) (ma
       → (keys : List WrapKeyValue) → old.tells keys → old.exact → old.meaning.plain ≡ true
       → IfErr r (EncryptEnds (asked_told keys old.meaning new.meaning request size max_keys) input taken gains entropy spent untouched unasked)
   stops_told untouched unasked r counts ends keys told is_exact plain =
-      let a : Asked = asked_between old new request now size max_keys in
-      let b : Asked = asked_told keys old.meaning new.meaning request size max_keys in
+      let a : EncryptAsked = asked_between old new request now size max_keys in
+      let b : EncryptAsked = asked_told keys old.meaning new.meaning request size max_keys in
       let more : SaysMore a b = told_more keys old new request now size max_keys (is_told keys old counts told is_exact plain) in
       IfErr-weaker r (EncryptEnds a input taken gains entropy spent untouched unasked) (EncryptEnds b input taken gains entropy spent untouched unasked)
       (λ error why. ends_more a b input taken gains entropy spent untouched unasked error more why) ends

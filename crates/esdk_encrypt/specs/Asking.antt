@@ -1,6 +1,8 @@
 -- What comes of asking a manager for the materials of a message; and what it bears, once a run is
 -- over, of what it served: one line more at the most.
-use Rattle.std.specs.Prelude.{◌≡◌, ℕ, List, ◌∷◌, [], ◌++◌, length, true, ⊤, ◌⊎◌, Option, Result, MatchResult}
+use Rattle.std.specs.Prelude.{◌≡◌, ℕ, List, ◌∷◌, [], ◌++◌, length, true, ⊤, ◌⊎◌, Option, Result}
+use Rattle.std.specs.Prelude.{MatchResult}
+use Rattle.stream_seal.specs.Start.{drawn_rest}
 use Rattle.esdk_fields.specs.declared.refusals.Outside.TheVariants as outsides
 use Rattle.esdk_base.specs.Streams.{EntropyState}
 use Rattle.keyring_trait.specs.declared.journal.JournalLine.{JournalLine}
@@ -12,7 +14,8 @@ use Rattle.keyring_trait.specs.Materials.{EncMaterialsValue}
 use Rattle.keyring_trait.specs.Wrapping.{WrapKeyValue, active}
 use Rattle.esdk_encrypt.specs.declared.errors.EncryptError.{EncryptError}
 use Rattle.esdk_encrypt.specs.declared.errors.EncryptError.TheVariants as errors
-use Rattle.esdk_encrypt.specs.Encrypt.{Asked, Drew, EntropyFails, GivesNothing, HasNoMemory, drawn_rest}
+use Rattle.esdk_encrypt.specs.Encrypt.{EncryptAsked, Drew, EntropyFails, ManagerGivesNothing}
+use Rattle.esdk_encrypt.specs.Encrypt.{EncryptLacksMemory}
 
 -- ---- the materials
 
@@ -23,22 +26,22 @@ pub record CountsWraps (n : ManagerNow) : Type 0 where
   pub plain : n.meaning.plain ≡ true → n.meaning.fresh ≡ true
 
 -- Bytes were drawn, and the manager gave materials for them.
-pub record IsGiven (asked : Asked) (entropy spent : EntropyState) (drawn : List ℕ)
+pub record MaterialsWereGiven (asked : EncryptAsked) (entropy spent : EntropyState) (drawn : List ℕ)
     (materials : EncMaterialsValue) : Type 0 where
   pub drew : Drew asked.wraps entropy spent drawn
   pub given : asked.gives (drawn_rest drawn) materials
 
 -- Why there are none: a fill failed, and the manager wasn't asked; or it gave nothing for the bytes
 -- drawn. `unasked` says that the manager is as before. Nothing is said here of input and output.
-abbrev pub IsNotGiven : Asked → EntropyState → EntropyState → Type 0 → EncryptError → Type 0
+abbrev pub IsNotGiven : EncryptAsked → EntropyState → EntropyState → Type 0 → EncryptError → Type 0
 IsNotGiven asked entropy spent unasked (errors.Outside outsides.EntropyFault) =
     EntropyFails entropy spent ⊤ unasked
 IsNotGiven asked entropy spent unasked (errors.Outside outsides.KeyringFault) =
-    GivesNothing asked entropy spent managers.KeyringFault ⊤
+    ManagerGivesNothing asked entropy spent managers.KeyringFault ⊤
 IsNotGiven asked entropy spent unasked (errors.Outside outside) = ⊥
 IsNotGiven asked entropy spent unasked (errors.Refusal refusal) =
-    GivesNothing asked entropy spent (managers.Refusal refusal) ⊤
-IsNotGiven asked entropy spent unasked errors.Memory = HasNoMemory asked entropy spent ⊤
+    ManagerGivesNothing asked entropy spent (managers.Refusal refusal) ⊤
+IsNotGiven asked entropy spent unasked errors.Memory = EncryptLacksMemory asked entropy spent ⊤
 
 -- ---- what it bears
 

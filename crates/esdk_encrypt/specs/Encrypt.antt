@@ -1,5 +1,6 @@
 -- What encrypting an input comes to. Standard: AWS Encryption SDK Specification, "Encrypt".
-use Rattle.std.specs.Prelude.{◌≡◌, ℕ, ◌+◌, ◌*◌, ◌-◌, ◌<◌, ◌≤◌, List, [], ◌++◌, length, take, drop, All, ⊤, ◌⊎◌, Option, Some, None}
+use Rattle.std.specs.Prelude.{◌≡◌, ℕ, ◌+◌, ◌*◌, ◌-◌, ◌<◌, ◌≤◌, List, [], ◌++◌, length, take, All, ⊤}
+use Rattle.std.specs.Prelude.{◌⊎◌, Option, Some, None}
 use Rattle.std.specs.Io.KnownBytes.{Consumes, Keeps}
 use Rattle.esdk_fields.specs.Counts.{Rose}
 use Rattle.esdk_base.specs.Streams.{EntropyState, SourceState}
@@ -16,6 +17,7 @@ use Rattle.keyring_trait.specs.Saying.{Saying}
 use Rattle.message_format.specs.Message.{under}
 use Rattle.stream_seal.specs.Feeding.{frames_given}
 use Rattle.stream_seal.specs.Start.{message_of, most_frames, most_text, start_of, start_refusal}
+use Rattle.stream_seal.specs.Start.{drawn_id, drawn_rest}
 use Rattle.whole_input.specs.Pieces.{APieceBehind}
 use Rattle.whole_input.specs.Taken.{Came, EndSeen, MostTaken}
 use Rattle.esdk_encrypt.specs.declared.errors.EncryptError.{EncryptError}
@@ -24,21 +26,14 @@ use Rattle.esdk_encrypt.specs.Gaining.{Front, Gaining, Whole}
 
 -- how many bytes are drawn: 32 of message id, 32 of data key, and 12 of IV for each wrap of the
 -- data key
-abbrev pub draws : ℕ → ℕ
-draws wraps = 64 + 12 * wraps
-
--- the message id among the bytes drawn, and what the materials are made with
-abbrev pub drawn_id : List ℕ → List ℕ
-drawn_id drawn = take 32 drawn
-
-abbrev pub drawn_rest : List ℕ → List ℕ
-drawn_rest drawn = drop 32 drawn
+abbrev pub drawn_count : ℕ → ℕ
+drawn_count wraps = 64 + 12 * wraps
 
 -- Just these bytes came from the entropy: they are those that it tells to have been drawn, and the
 -- first of those to come, where it tells these. No fill failed.
 pub record Drew (wraps : ℕ) (old new : EntropyState) (drawn : List ℕ) : Type 0 where
   pub told : new.drawn ≡ old.drawn ++ drawn
-  pub count : length drawn ≡ draws wraps
+  pub count : length drawn ≡ drawn_count wraps
   pub consumed : Consumes old.to_come new.to_come drawn
   pub faults : new.faults ≡ old.faults
 
@@ -46,7 +41,8 @@ pub record Drew (wraps : ℕ) (old new : EntropyState) (drawn : List ℕ) : Type
 
 -- the header with its tag, and so many regular frames
 abbrev pub header_and_frames : EncMaterialsValue → ℕ → List ℕ → List ℕ → ℕ → List ℕ
-header_and_frames m size id text frames = start_of m size id ++ regular_frames size (under m.key id) text frames
+header_and_frames m size id text frames =
+    start_of m size id ++ regular_frames size (under m.key id) text frames
 
 -- what is written of a text while the input goes on: all of its message but the last frame. So m
 -- regular frames are, m being the least number for which (m + 1) * size bytes are enough for the
@@ -55,7 +51,8 @@ abbrev pub written_so_far : EncMaterialsValue → ℕ → List ℕ → List ℕ 
 written_so_far m size id text = header_and_frames m size id text (frames_given (length text) size)
 
 -- The whole input was taken, and the output gained the message of it.
-pub record Writes (m : EncMaterialsValue) (size : ℕ) (id : List ℕ) (input taken : SourceState) (gains : Gaining) : Type 0 where
+pub record WritesMessage (m : EncMaterialsValue) (size : ℕ) (id : List ℕ)
+    (input taken : SourceState) (gains : Gaining) : Type 0 where
   pub text : List ℕ
   pub came : Came input taken text
   pub end : EndSeen input taken text
@@ -64,7 +61,8 @@ pub record Writes (m : EncMaterialsValue) (size : ℕ) (id : List ℕ) (input ta
 
 -- A read failed. The bytes taken before have room in a message, and the output gained what is
 -- written of them while the input goes on.
-pub record SourceFails (m : EncMaterialsValue) (size : ℕ) (id : List ℕ) (input taken : SourceState) (gains : Gaining) : Type 0 where
+pub record EncryptSourceFails (m : EncMaterialsValue) (size : ℕ) (id : List ℕ)
+    (input taken : SourceState) (gains : Gaining) : Type 0 where
   pub text : List ℕ
   pub came : Came input taken text
   pub rose : Rose input.faults taken.faults
@@ -73,62 +71,77 @@ pub record SourceFails (m : EncMaterialsValue) (size : ℕ) (id : List ℕ) (inp
 
 -- 2^62 bytes were taken, and have room in a message. The output gained what is written of them
 -- while the input goes on.
-pub record IsTooLong (m : EncMaterialsValue) (size : ℕ) (id : List ℕ) (input taken : SourceState) (gains : Gaining) : Type 0 where
+pub record EncryptInputIsTooLong (m : EncMaterialsValue) (size : ℕ) (id : List ℕ)
+    (input taken : SourceState) (gains : Gaining) : Type 0 where
   pub text : List ℕ
   pub came : Came input taken text
   pub most : MostTaken input taken text
   pub short : length text ≤ most_text size
   pub gained : gains.took Front (written_so_far m size id text)
 
--- The last piece has a byte beyond those that have room in a message, and no read failed. The output
--- gained all regular frames of the message of those that have, and no final frame.
-pub record HasTooMany (m : EncMaterialsValue) (size : ℕ) (id : List ℕ) (input taken : SourceState) (gains : Gaining) : Type 0 where
+-- The last piece has a byte beyond those that have room in a message, and no read failed. The
+-- output gained all regular frames of the message of those that have, and no final frame.
+pub record EncryptNeedsTooManyFrames (m : EncMaterialsValue) (size : ℕ) (id : List ℕ)
+    (input taken : SourceState) (gains : Gaining) : Type 0 where
   pub text : List ℕ
   pub came : Came input taken text
   pub faults : taken.faults ≡ input.faults
   pub many : most_text size < length text
   pub last : APieceBehind (λ before. length before ≤ most_text size) text
-  pub gained : gains.took Front (header_and_frames m size id (take (most_text size) text) (most_frames - 1))
+  pub gained : gains.took Front
+      (header_and_frames m size id (take (most_text size) text) (most_frames - 1))
 
 -- The output failed at the header: nothing was taken.
-pub record HeaderFails (m : EncMaterialsValue) (size : ℕ) (id : List ℕ) (gains : Gaining) (text : List ℕ) : Type 0 where
+pub record EncryptHeaderFails (m : EncMaterialsValue) (size : ℕ) (id : List ℕ) (gains : Gaining)
+    (text : List ℕ) : Type 0 where
   pub none : text ≡ []
   pub stopped : gains.stopped Front [] (start_of m size id)
 
 -- Bytes that come first have room in a message, and what is written of them while the input goes on
 -- was; but not all that is written of all that have room.
-pub record WritesFrames (m : EncMaterialsValue) (size : ℕ) (id : List ℕ) (gains : Gaining) (text first : List ℕ) : Type 0 where
+pub record WritesFrames (m : EncMaterialsValue) (size : ℕ) (id : List ℕ) (gains : Gaining)
+    (text first : List ℕ) : Type 0 where
   pub short : length first ≤ most_text size
-  pub stopped : gains.stopped Front (written_so_far m size id first) (written_so_far m size id (take (most_text size) text))
+  pub stopped : gains.stopped Front (written_so_far m size id first)
+      (written_so_far m size id (take (most_text size) text))
 
 -- The output failed at the final frame: the input's end was seen, and what comes before that frame
 -- was written.
-pub record FinalFails (m : EncMaterialsValue) (size : ℕ) (id : List ℕ) (input taken : SourceState) (gains : Gaining) (text : List ℕ) : Type 0 where
+pub record EncryptFinalFails (m : EncMaterialsValue) (size : ℕ) (id : List ℕ)
+    (input taken : SourceState) (gains : Gaining) (text : List ℕ) : Type 0 where
   pub end : EndSeen input taken text
   pub short : length text ≤ most_text size
   pub stopped : gains.stopped Whole (written_so_far m size id text) (message_of m size id text)
 
 -- The output failed: at the header, or at a frame of the last piece, or at the final frame. No read
 -- failed.
-pub record SinkFails (m : EncMaterialsValue) (size : ℕ) (id : List ℕ) (input taken : SourceState) (gains : Gaining) : Type 0 where
+pub record EncryptSinkFails (m : EncMaterialsValue) (size : ℕ) (id : List ℕ)
+    (input taken : SourceState) (gains : Gaining) : Type 0 where
   pub text : List ℕ
   pub came : Came input taken text
   pub faults : taken.faults ≡ input.faults
-  pub at : HeaderFails m size id gains text ⊎ (APieceBehind (WritesFrames m size id gains text) text ⊎ FinalFails m size id input taken gains text)
+  pub at : EncryptHeaderFails m size id gains text
+      ⊎ (APieceBehind (WritesFrames m size id gains text) text
+      ⊎ EncryptFinalFails m size id input taken gains text)
 
 -- why no more was taken or written, and what was
-abbrev pub StopsSo : EncMaterialsValue → ℕ → List ℕ → SourceState → SourceState → Gaining → EncryptError → Type 0
-StopsSo m size id input taken gains (errors.Outside outsides.SourceFault) = SourceFails m size id input taken gains
-StopsSo m size id input taken gains (errors.Outside outsides.SinkFault) = SinkFails m size id input taken gains
-StopsSo m size id input taken gains (errors.Outside outsides.InputTooLong) = IsTooLong m size id input taken gains
-StopsSo m size id input taken gains (errors.Refusal refusals.TooManyFrames) = HasTooMany m size id input taken gains
+abbrev pub StopsSo : EncMaterialsValue → ℕ → List ℕ → SourceState → SourceState → Gaining
+    → EncryptError → Type 0
+StopsSo m size id input taken gains (errors.Outside outsides.SourceFault) =
+    EncryptSourceFails m size id input taken gains
+StopsSo m size id input taken gains (errors.Outside outsides.SinkFault) =
+    EncryptSinkFails m size id input taken gains
+StopsSo m size id input taken gains (errors.Outside outsides.InputTooLong) =
+    EncryptInputIsTooLong m size id input taken gains
+StopsSo m size id input taken gains (errors.Refusal refusals.TooManyFrames) =
+    EncryptNeedsTooManyFrames m size id input taken gains
 StopsSo m size id input taken gains error = ⊥
 
 -- ---- the whole run
 
 -- What a run is about: how many wraps the manager makes, what it gives for random bytes, and why it
 -- gives nothing; the frame length and the limit on entries.
-pub record Asked : Type 1 where
+pub record EncryptAsked : Type 1 where
   pub wraps : ℕ
   pub gives : List ℕ → EncMaterialsValue → Type 0
   pub gives_none : ManagerError → Type 0
@@ -136,8 +149,8 @@ pub record Asked : Type 1 where
   pub max_keys : Option ℕ
 
 -- what is asked of a manager that may say this, of this request and at this moment
-abbrev pub encryption_of : Saying → EncRequestValue → ℕ → ℕ → Option ℕ → Asked
-encryption_of saying request now size max_keys = record {
+abbrev pub encrypting_from : Saying → EncRequestValue → ℕ → ℕ → Option ℕ → EncryptAsked
+encrypting_from saying request now size max_keys = record {
   wraps = saying.wraps;
   gives = saying.gives request now;
   gives_none = saying.gives_none request;
@@ -146,23 +159,26 @@ encryption_of saying request now size max_keys = record {
 }
 
 -- Bytes were drawn, the manager gave materials for them, and a message can begin with these.
-pub record Begins (asked : Asked) (entropy spent : EntropyState) (drawn : List ℕ) (materials : EncMaterialsValue) : Type 0 where
+pub record CanBegin (asked : EncryptAsked) (entropy spent : EntropyState) (drawn : List ℕ)
+    (materials : EncMaterialsValue) : Type 0 where
   pub drew : Drew asked.wraps entropy spent drawn
   pub given : asked.gives (drawn_rest drawn) materials
   pub begins : start_refusal materials asked.max_keys (drawn_id drawn) ≡ None
 
 -- Then the whole input was taken, and the output gained the message of it.
-pub record Encrypts (asked : Asked) (input taken : SourceState) (gains : Gaining) (entropy spent : EntropyState) : Type 0 where
+pub record Encrypts (asked : EncryptAsked) (input taken : SourceState) (gains : Gaining)
+    (entropy spent : EntropyState) : Type 0 where
   pub drawn : List ℕ
   pub materials : EncMaterialsValue
-  pub started : Begins asked entropy spent drawn materials
-  pub writes : Writes materials asked.size (drawn_id drawn) input taken gains
+  pub started : CanBegin asked entropy spent drawn materials
+  pub writes : WritesMessage materials asked.size (drawn_id drawn) input taken gains
 
 -- Then the message of the input wasn't written, or not whole.
-pub record EndsAfter (asked : Asked) (input taken : SourceState) (gains : Gaining) (entropy spent : EntropyState) (error : EncryptError) : Type 0 where
+pub record EndsAfter (asked : EncryptAsked) (input taken : SourceState) (gains : Gaining)
+    (entropy spent : EntropyState) (error : EncryptError) : Type 0 where
   pub drawn : List ℕ
   pub materials : EncMaterialsValue
-  pub started : Begins asked entropy spent drawn materials
+  pub started : CanBegin asked entropy spent drawn materials
   pub stops : StopsSo materials asked.size (drawn_id drawn) input taken gains error
 
 -- A fill failed: nothing was drawn, taken or written, and the manager wasn't asked.
@@ -174,7 +190,8 @@ pub record EntropyFails (entropy spent : EntropyState) (untouched unasked : Type
   pub manager : unasked
 
 -- Bytes were drawn, and the manager gave nothing, for this reason; nothing was taken or written.
-pub record GivesNothing (asked : Asked) (entropy spent : EntropyState) (error : ManagerError) (untouched : Type 0) : Type 0 where
+pub record ManagerGivesNothing (asked : EncryptAsked) (entropy spent : EntropyState)
+    (error : ManagerError) (untouched : Type 0) : Type 0 where
   pub drawn : List ℕ
   pub drew : Drew asked.wraps entropy spent drawn
   pub cause : asked.gives_none error
@@ -182,7 +199,8 @@ pub record GivesNothing (asked : Asked) (entropy spent : EntropyState) (error : 
 
 -- Bytes were drawn, the manager gave materials, and no header can be made of these, though each of
 -- their entries is one; nothing was taken or written.
-pub record RefusesStart (asked : Asked) (entropy spent : EntropyState) (refusal : Refusal) (untouched : Type 0) : Type 0 where
+pub record RefusesStart (asked : EncryptAsked) (entropy spent : EntropyState) (refusal : Refusal)
+    (untouched : Type 0) : Type 0 where
   pub drawn : List ℕ
   pub materials : EncMaterialsValue
   pub drew : Drew asked.wraps entropy spent drawn
@@ -192,7 +210,8 @@ pub record RefusesStart (asked : Asked) (entropy spent : EntropyState) (refusal 
   pub same : untouched
 
 -- Bytes were drawn, and memory ran out before anything was taken or written.
-pub record HasNoMemory (asked : Asked) (entropy spent : EntropyState) (untouched : Type 0) : Type 0 where
+pub record EncryptLacksMemory (asked : EncryptAsked) (entropy spent : EntropyState)
+    (untouched : Type 0) : Type 0 where
   pub drawn : List ℕ
   pub drew : Drew asked.wraps entropy spent drawn
   pub same : untouched
@@ -200,18 +219,28 @@ pub record HasNoMemory (asked : Asked) (entropy spent : EntropyState) (untouched
 -- Why an input wasn't encrypted, and what that left. `untouched` says that the input and the output
 -- are as before, `unasked` that the manager is. Want of memory is free before anything is taken or
 -- written, and can't come later.
-abbrev pub EncryptEnds : Asked → SourceState → SourceState → Gaining → EntropyState → EntropyState → Type 0 → Type 0 → EncryptError → Type 0
-EncryptEnds asked input taken gains entropy spent untouched unasked (errors.Outside outsides.EntropyFault) = EntropyFails entropy spent untouched unasked
-EncryptEnds asked input taken gains entropy spent untouched unasked (errors.Outside outsides.KeyringFault) = GivesNothing asked entropy spent managers.KeyringFault untouched
-EncryptEnds asked input taken gains entropy spent untouched unasked (errors.Outside outside) = EndsAfter asked input taken gains entropy spent (errors.Outside outside)
-EncryptEnds asked input taken gains entropy spent untouched unasked (errors.Refusal refusals.TooManyFrames) =
+abbrev pub EncryptEnds : EncryptAsked → SourceState → SourceState → Gaining → EntropyState
+    → EntropyState → Type 0 → Type 0 → EncryptError → Type 0
+EncryptEnds asked input taken gains entropy spent untouched unasked
+    (errors.Outside outsides.EntropyFault) = EntropyFails entropy spent untouched unasked
+EncryptEnds asked input taken gains entropy spent untouched unasked
+    (errors.Outside outsides.KeyringFault) = ManagerGivesNothing asked entropy spent
+    managers.KeyringFault untouched
+EncryptEnds asked input taken gains entropy spent untouched unasked (errors.Outside outside) =
+    EndsAfter asked input taken gains entropy spent (errors.Outside outside)
+EncryptEnds asked input taken gains entropy spent untouched unasked
+    (errors.Refusal refusals.TooManyFrames) =
     EndsAfter asked input taken gains entropy spent (errors.Refusal refusals.TooManyFrames)
-EncryptEnds asked input taken gains entropy spent untouched unasked (errors.Refusal (refusals.TooManyDataKeys n)) =
+EncryptEnds asked input taken gains entropy spent untouched unasked
+    (errors.Refusal (refusals.TooManyDataKeys n)) =
     RefusesStart asked entropy spent (refusals.TooManyDataKeys n) untouched
-EncryptEnds asked input taken gains entropy spent untouched unasked (errors.Refusal (refusals.HeaderTooLong n)) =
+EncryptEnds asked input taken gains entropy spent untouched unasked
+    (errors.Refusal (refusals.HeaderTooLong n)) =
     RefusesStart asked entropy spent (refusals.HeaderTooLong n) untouched
-EncryptEnds asked input taken gains entropy spent untouched unasked (errors.Refusal refusal) = GivesNothing asked entropy spent (managers.Refusal refusal) untouched
-EncryptEnds asked input taken gains entropy spent untouched unasked errors.Memory = HasNoMemory asked entropy spent untouched
+EncryptEnds asked input taken gains entropy spent untouched unasked (errors.Refusal refusal) =
+    ManagerGivesNothing asked entropy spent (managers.Refusal refusal) untouched
+EncryptEnds asked input taken gains entropy spent untouched unasked errors.Memory =
+    EncryptLacksMemory asked entropy spent untouched
 
 -- a manager's error that is no fault of a header
 abbrev pub IsNoFault : ManagerError → Type 0
@@ -219,11 +248,11 @@ IsNoFault (managers.Fault fault) = ⊥
 IsNoFault error = ⊤
 
 -- there are no materials for the reason that the manager has
-abbrev pub GivesNot : ManagerError → EncryptError → Type 0
-GivesNot (managers.Refusal refusal) error = error ≡ errors.Refusal refusal
-GivesNot managers.KeyringFault error = error ≡ errors.Outside outsides.KeyringFault
-GivesNot (managers.Fault fault) error = ⊥
-GivesNot managers.Memory error = error ≡ errors.Memory
+abbrev pub ManagerGivesNot : ManagerError → EncryptError → Type 0
+ManagerGivesNot (managers.Refusal refusal) error = error ≡ errors.Refusal refusal
+ManagerGivesNot managers.KeyringFault error = error ≡ errors.Outside outsides.KeyringFault
+ManagerGivesNot (managers.Fault fault) error = ⊥
+ManagerGivesNot managers.Memory error = error ≡ errors.Memory
 
 -- a message can't be begun for that reason; want of memory is free
 abbrev pub BeginsNoMessage : Option Refusal → EncryptError → Type 0

@@ -3,7 +3,7 @@
 use Rattle.std.specs.Prelude.{◌≡◌, ℕ, ◌≤◌, List, ◌++◌, length}
 use Rattle.std.specs.Io.KnownBytes.{Appends}
 use Rattle.esdk_base.specs.declared.source.Failed.{Failed}
-use Rattle.esdk_base.specs.Receiver.{SinkFails, SinkTakes}
+use Rattle.esdk_base.specs.Receiver.{SinkFails}
 use Rattle.esdk_base.specs.Streams.{SinkState}
 use Rattle.esdk_fields.specs.Counts.{Rose}
 use Rattle.whole_input.specs.Written.{WritesBeyond}
@@ -41,31 +41,27 @@ gaining takes fails old new =
 -- ---- a sink
 
 -- in which form bytes of a message are written
-abbrev pub Form : Type 0
-Form = Extent → List ℕ → List ℕ
+abbrev pub OutputForm : Type 0
+OutputForm = Extent → List ℕ → List ℕ
 
 -- as they are
-abbrev pub as_bytes : Form
+abbrev pub as_bytes : OutputForm
 as_bytes extent bytes = bytes
 
 -- In this form the sink gained all of the bytes; or a put failed, and the sink gained all of the
 -- first and a front of what comes behind it, which is something.
-abbrev pub gained_as : Form → SinkState → SinkState → Gaining
+abbrev pub gained_as : OutputForm → SinkState → SinkState → Gaining
 gained_as form output put = record {
   took = λ extent bytes. Appends output.written put.written (form extent bytes);
   stopped = λ extent first all. WritesBeyond output put (form Front first) (form extent all)
       × Rose output.faults put.faults;
 }
 
--- a sink of which this is the state, as a receiver
-abbrev pub sink_takes : {R : Type 0} → (R → SinkState) → R → R → List ℕ → Type 0
-sink_takes state old new bytes = SinkTakes (state old) (state new) bytes
-
 abbrev pub sink_fails : {R : Type 0} → (R → SinkState) → R → R → List ℕ → Failed → Type 0
 sink_fails state old new bytes failed = SinkFails (state old) (state new) bytes
 
 -- What is written of a front is a front of what is written of all that it begins.
-pub record KeepsFronts (form : Form) : Type 0 where
+pub record KeepsFronts (form : OutputForm) : Type 0 where
   pub goes_on : (front more : List ℕ)
       → (rest : List ℕ) × (form Front (front ++ more) ≡ form Front front ++ rest)
   pub ends : (front more : List ℕ)

@@ -1,5 +1,6 @@
 -- A message that is written as its text comes.
-use Rattle.std.specs.Prelude.{◌≡◌, ℕ, ◌≤◌, List, [], length, false, None, Result, Ok, Err, MatchResult}
+use Rattle.std.specs.Prelude.{◌≡◌, ℕ, ◌≤◌, List, [], length, false, None, Result, Ok, Err}
+use Rattle.std.specs.Prelude.{MatchResult}
 use Rattle.esdk_base.specs.declared.receiver.FeedError.{FeedError}
 use Rattle.esdk_base.specs.declared.receiver.FeedError.TheVariants as feeds
 use Rattle.esdk_base.specs.declared.source.Failed.{Failed}
@@ -10,19 +11,19 @@ use Rattle.stream_seal.specs.declared.errors.SealError.{SealError}
 use Rattle.stream_seal.specs.declared.errors.SealError.TheVariants as seals
 use Rattle.stream_seal.specs.Feeding.{frames_given}
 use Rattle.stream_seal.specs.declared.session.Sealer.{Sealer}
-use Rattle.stream_seal.specs.Session.{SealingValue, finished}
+use Rattle.stream_seal.specs.Session.{SealingValue, sealing_finished}
 use Rattle.stream_seal.specs.Stands.{Stands}
 use Rattle.whole_input.specs.declared.pieces.End.{End}
 use Rattle.whole_input.specs.declared.pieces.End.TheVariants as ends
 use Rattle.esdk_encrypt.specs.declared.errors.EncryptError.{EncryptError}
 use Rattle.esdk_encrypt.specs.declared.errors.EncryptError.TheVariants as errors
-use Rattle.esdk_encrypt.specs.Encrypt.{StopsSo, Writes}
+use Rattle.esdk_encrypt.specs.Encrypt.{StopsSo, WritesMessage}
 use Rattle.esdk_encrypt.specs.Gaining.{Gaining}
 
 -- the session that was fed this text, of a message with these materials, in frames of this length,
 -- under this id
-abbrev pub session_of : EncMaterialsValue → ℕ → List ℕ → List ℕ → SealingValue
-session_of m size id text = record {
+abbrev pub sealing_of_text : EncMaterialsValue → ℕ → List ℕ → List ℕ → SealingValue
+sealing_of_text m size id text = record {
   materials = m;
   declared = None;
   size = size;
@@ -64,19 +65,19 @@ pub record IsUnfed (sealer : Sealer) : Type 0 where
   pub size : ℕ
   pub id : List ℕ
   pub wide : 1 ≤ size
-  pub stands : Stands sealer (session_of materials size id [])
+  pub stands : Stands sealer (sealing_of_text materials size id [])
 
 -- what writing the message of an input comes to
 abbrev pub WritesOrStops : EncMaterialsValue → ℕ → List ℕ → SourceState → SourceState → Gaining
     → Result (Unit {0}) EncryptError → Type 0
 WritesOrStops m size id input taken gains result =
-    MatchResult result (λ _. Writes m size id input taken gains)
+    MatchResult result (λ _. WritesMessage m size id input taken gains)
     (StopsSo m size id input taken gains)
 
 -- ---- the end
 
 -- The sealer stands for a session that goes on.
-pub record IsGoing (sealer : Sealer) : Type 0 where
+pub record SealerIsGoing (sealer : Sealer) : Type 0 where
   pub session : SealingValue
   pub stands : Stands sealer session
   pub goes : session.stopped ≡ false
@@ -85,23 +86,24 @@ pub record IsGoing (sealer : Sealer) : Type 0 where
 pub record FailsLast {R E : Type 0} (fails : R → R → List ℕ → E → Type 0) (v : SealingValue)
     (old new : R) : Type 0 where
   pub error : E
-  pub some : 1 ≤ length (finished v).out
-  pub failed : fails old new (finished v).out error
+  pub some : 1 ≤ length (sealing_finished v).out
+  pub failed : fails old new (sealing_finished v).out error
 
 -- what putting the final frame comes to
 abbrev pub PutsLast : {R E : Type 0} → (R → R → List ℕ → Type 0) → (R → R → List ℕ → E → Type 0)
     → SealingValue → R → R → Result (Unit {0}) EncryptError → Type 0
-PutsLast takes fails v old new (Ok done) = takes old new (finished v).out
+PutsLast takes fails v old new (Ok done) = takes old new (sealing_finished v).out
 PutsLast takes fails v old new (Err (errors.Outside outsides.SinkFault)) =
     FailsLast fails v old new
 PutsLast takes fails v old new (Err error) = ⊥
 
 -- What ending the message comes to, by why no more came: the final frame is put only once the end
 -- was seen.
-abbrev pub Concludes : {R E : Type 0} → (R → R → List ℕ → Type 0) → (R → R → List ℕ → E → Type 0)
+abbrev pub ConcludesEncryption : {R E : Type 0} → (R → R → List ℕ → Type 0)
+    → (R → R → List ℕ → E → Type 0)
     → SealingValue → End → R → R → Result (Unit {0}) EncryptError → Type 0
-Concludes takes fails v ends.Seen old new result = PutsLast takes fails v old new result
-Concludes takes fails v ends.Failed old new result =
+ConcludesEncryption takes fails v ends.Seen old new result = PutsLast takes fails v old new result
+ConcludesEncryption takes fails v ends.Failed old new result =
     (new ≡ old) × (result ≡ Err (errors.Outside outsides.SourceFault))
-Concludes takes fails v ends.TooLong old new result =
+ConcludesEncryption takes fails v ends.TooLong old new result =
     (new ≡ old) × (result ≡ Err (errors.Outside outsides.InputTooLong))

@@ -5,7 +5,7 @@ ghost use Rattle.edk_codec.specs.Entry.{IsEntry};
 ghost use Rattle.stream_seal.specs.Stands.{Stands};
 ghost use Rattle.stream_seal.specs.Start.{start_refusal};
 ghost use Rattle.esdk_encrypt.specs.Encrypt.{BeginsNoMessage};
-ghost use Rattle.esdk_encrypt.specs.Writing.{session_of};
+ghost use Rattle.esdk_encrypt.specs.Writing.{sealing_of_text};
 
 use crate::errors::EncryptError;
 use crate::options::EncryptOptions;
@@ -27,7 +27,7 @@ pub(crate) fn begin(
 ) -> Result<(Sealer, Pieces), EncryptError>
     requires some { 1 ≤ options.frame_length }
     ensures stands { IfOk result (λ begun. Stands begun.0
-        (session_of materials.now options.frame_length message_id.now [])) }
+        (sealing_of_text materials.now options.frame_length message_id.now [])) }
     ensures none { IfOk result (λ begun. begun.1.taken ≡ 0) }
     ensures taken { OnOk result
         (start_refusal materials.now options.max_keys message_id.now ≡ None) }

@@ -2,8 +2,9 @@
 
 ghost use Rattle.std.specs.Prelude.{◌≡◌, ◌≤◌, length, IfOk, IfErr, OnErr};
 ghost use Rattle.std.specs.Io.KnownBytes.{Keeps};
+ghost use Rattle.stream_seal.specs.Start.{drawn_id, drawn_rest};
 ghost use Rattle.esdk_fields.specs.Counts.{HasCause};
-ghost use Rattle.esdk_encrypt.specs.Encrypt.{Drew, drawn_id, drawn_rest};
+ghost use Rattle.esdk_encrypt.specs.Encrypt.{Drew};
 
 use esdk_base::{Entropy, Failed};
 use esdk_fields::array_of;

@@ -5,7 +5,7 @@ ghost use Rattle.keyring_trait.specs.Manager.{Went};
 ghost use Rattle.keyring_trait.specs.Saying.{said_last};
 ghost use Rattle.keyring_trait.specs.Wrapping.{WrapKeyValue};
 ghost use Rattle.esdk_encrypt.specs.Asking.{BearsAtMostOne};
-ghost use Rattle.esdk_encrypt.specs.Encrypt.{encryption_of, Encrypts, EncryptEnds};
+ghost use Rattle.esdk_encrypt.specs.Encrypt.{encrypting_from, Encrypts, EncryptEnds};
 ghost use Rattle.esdk_encrypt.specs.Gaining.{gaining};
 ghost use Rattle.esdk_encrypt.specs.Told.{asked_told};
 
@@ -63,13 +63,13 @@ pub fn encrypt<M: Manager, S: Source, O: Receiver, W: Entropy>(
     // Over any manager. The materials are the last that the manager which is left gave, at the
     // moment of the options.
     ensures done { OnOk result (Encrypts
-        (encryption_of (said_last (M.state manager.old) (M.state manager.new)) request.now
+        (encrypting_from (said_last (M.state manager.old) (M.state manager.new)) request.now
         options.now options.frame_length options.max_keys)
         (S.state input.old) (S.state input.new)
         (gaining O.takes O.fails output.old output.new)
         (W.state entropy.old) (W.state entropy.new)) }
     ensures ends { IfErr result (λ error. EncryptEnds
-        (encryption_of (said_last (M.state manager.old) (M.state manager.new)) request.now
+        (encrypting_from (said_last (M.state manager.old) (M.state manager.new)) request.now
         options.now options.frame_length options.max_keys)
         (S.state input.old) (S.state input.new)
         (gaining O.takes O.fails output.old output.new)

@@ -1,7 +1,11 @@
 //! Laws about encryption. A law is a function that does nothing: its contract is what is proved.
 
-ghost use Rattle.esdk_encrypt.specs.Gaining.{GainsAs, KeepsFronts, as_bytes, gained_as, gaining, sink_fails, sink_takes};
-ghost use Rattle.esdk_encrypt.specs.Laws.{EncryptsInputsThatFit, GainsTheMessage, LeavesAFront, SealsAllThatCame, WritesAllButTheLast};
+ghost use Rattle.esdk_encrypt.specs.Gaining.{GainsAs, KeepsFronts, as_bytes, gained_as, gaining};
+ghost use Rattle.esdk_encrypt.specs.Gaining.{sink_fails};
+ghost use Rattle.esdk_encrypt.specs.Laws.{EncryptsInputsThatFit, GainsTheMessage};
+ghost use Rattle.esdk_encrypt.specs.Laws.{EncryptLeavesAFront, SealsAllThatCame};
+ghost use Rattle.esdk_encrypt.specs.Laws.{WritesAllButTheLast};
+ghost use Rattle.esdk_base.specs.Receiver.{PutsAll};
 
 use esdk_base::Sink;
 
@@ -27,7 +31,7 @@ pub fn what_came_is_sealed()
 /// the message of the bytes taken, as far as a message has room for them: as they are, or in any
 /// form in which fronts stay fronts.
 pub fn an_early_end_leaves_a_front()
-    ensures front { LeavesAFront }
+    ensures front { EncryptLeavesAFront }
     ensures bytes { KeepsFronts as_bytes }
 {}
 
@@ -40,6 +44,6 @@ pub fn all_frames_but_the_last_are_written()
 /// What `encrypt` says of a sink as a receiver, it says of what that tells and counts: it gained
 /// the bytes; or a put failed, and it gained all of the first and a front of what comes behind.
 pub fn a_sink_gains_what_it_takes<O: Sink>()
-    ensures { (old new : O) → GainsAs (gaining (sink_takes O.state) (sink_fails O.state) old new)
+    ensures { (old new : O) → GainsAs (gaining (PutsAll O.state) (sink_fails O.state) old new)
         (gained_as as_bytes (O.state old) (O.state new)) }
 {}

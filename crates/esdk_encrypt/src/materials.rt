@@ -3,8 +3,9 @@
 ghost use Rattle.std.specs.Prelude.{◌≡◌, IfErr, IfOk, MatchResult};
 ghost use Rattle.keyring_trait.specs.Manager.{Went};
 ghost use Rattle.keyring_trait.specs.Saying.{said_last};
-ghost use Rattle.esdk_encrypt.specs.Asking.{BearsAsMany, BearsOneMore, CountsWraps, IsGiven, IsNotGiven};
-ghost use Rattle.esdk_encrypt.specs.Encrypt.{encryption_of, GivesNot, IsNoFault};
+ghost use Rattle.esdk_encrypt.specs.Asking.{BearsAsMany, BearsOneMore, CountsWraps};
+ghost use Rattle.esdk_encrypt.specs.Asking.{MaterialsWereGiven, IsNotGiven};
+ghost use Rattle.esdk_encrypt.specs.Encrypt.{encrypting_from, ManagerGivesNot, IsNoFault};
 
 use crate::draws::{Draws, draw};
 use crate::errors::EncryptError;
@@ -34,12 +35,12 @@ pub(crate) fn ask<M: Manager, W: Entropy>(
     options: EncryptOptions,
     entropy: &mut W,
 ) -> Result<Given, EncryptError>
-    ensures given { IfOk result (λ given. IsGiven
-        (encryption_of (said_last (M.state manager.old) (M.state manager.new)) request.now
+    ensures given { IfOk result (λ given. MaterialsWereGiven
+        (encrypting_from (said_last (M.state manager.old) (M.state manager.new)) request.now
         options.now options.frame_length options.max_keys)
         (W.state entropy.old) (W.state entropy.new) given.draws given.materials) }
     ensures none { IfErr result (IsNotGiven
-        (encryption_of (said_last (M.state manager.old) (M.state manager.new)) request.now
+        (encrypting_from (said_last (M.state manager.old) (M.state manager.new)) request.now
         options.now options.frame_length options.max_keys)
         (W.state entropy.old) (W.state entropy.new) (manager.new ≡ manager.old)) }
     ensures went { Went (M.state manager.old) (M.state manager.new) }
@@ -62,7 +63,7 @@ pub(crate) fn ask<M: Manager, W: Entropy>(
 /// Why a run ends whose manager gives no materials.
 fn ungiven(error: ManagerError) -> EncryptError
     requires { IsNoFault error }
-    ensures { GivesNot error result }
+    ensures { ManagerGivesNot error result }
 {
     match error {
         ManagerError::Refusal(refusal) => EncryptError::Refusal(refusal),

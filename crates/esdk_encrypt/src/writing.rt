@@ -5,7 +5,8 @@ ghost use Rattle.keyring_trait.specs.Materials.{EncMaterialsValue};
 ghost use Rattle.stream_seal.specs.Session.{SealingValue};
 ghost use Rattle.stream_seal.specs.Stands.{Stands};
 ghost use Rattle.esdk_encrypt.specs.Gaining.{gaining};
-ghost use Rattle.esdk_encrypt.specs.Writing.{Concludes, IsGoing, IsNamed, IsUnfed, session_of, WritesAs, WritesOrStops};
+ghost use Rattle.esdk_encrypt.specs.Writing.{ConcludesEncryption, SealerIsGoing, IsNamed, IsUnfed};
+ghost use Rattle.esdk_encrypt.specs.Writing.{sealing_of_text, WritesAs, WritesOrStops};
 
 use crate::errors::EncryptError;
 use esdk_base::{FeedError, Receiver, Source};
@@ -24,7 +25,7 @@ pub(crate) fn write<S: Source, O: Receiver>(
     requires unfed { IsUnfed sealer }
     requires none { pieces.taken ≡ 0 }
     ensures writes { (m : EncMaterialsValue) (size : ℕ) (id : List ℕ) → 1 ≤ size
-        → Stands sealer (session_of m size id [])
+        → Stands sealer (sealing_of_text m size id [])
         → WritesOrStops m size id (S.state input.old) (S.state input.new)
         (gaining O.takes O.fails output.old output.new) result }
     ensures taken { (S.state input.new).given ≤ (S.state input.old).given + 2 ^ 62 }
@@ -43,9 +44,9 @@ pub(crate) fn write<S: Source, O: Receiver>(
 /// Ends the message of an input of which no more comes: the final frame is put only once the
 /// input's end was seen.
 fn conclude<O: Receiver>(mut sealer: Sealer, output: &mut O, end: End) -> Result<(), EncryptError>
-    requires { IsGoing sealer }
+    requires { SealerIsGoing sealer }
     ensures { (v : SealingValue) → Stands sealer v → v.stopped ≡ false
-        → Concludes O.takes O.fails v end output.old output.new result }
+        → ConcludesEncryption O.takes O.fails v end output.old output.new result }
 {
     match end {
         End::Seen => written(sealer.finish_into(output)),

@@ -7,7 +7,7 @@ use Rattle.std.proofs.lemmas.List.{take_at, drop_at, length-append}
 use Rattle.std.proofs.lemmas.List.Concat.{flat_map-cons}
 use Rattle.std.proofs.lemmas.Nat.{from_be_bytes-to_be_bytes_2, from_be_bytes-to_be_bytes_4, from_be_bytes-to_be_bytes_8}
 use Rattle.esdk_fields.specs.Numbers.{from_big_endian, to_big_endian}
-use Rattle.esdk_fields.specs.Reading.{Read, Reader, then_read, ◌>>=◌, done, field, bytes, number, repeat}
+use Rattle.esdk_fields.specs.Reading.{Read, FieldReader, then_read, ◌>>=◌, done, field, bytes, number, repeat}
 
 -- a field of n bytes that stands first
 pub field_again : {A : Type 0} (means : List ℕ → A) (text rest : List ℕ) (n at : ℕ) → length text ≡ n → field means n (record { at = at; left = text ++ rest }) ≡ Read (means text) (record { at = at + n; left = rest })
@@ -67,10 +67,10 @@ number64_again n rest at lt = field_again (from_big_endian w64) (to_big_endian w
 -- ---- a count of things
 
 -- m reads back what spell writes of x, whatever follows
-pub record ReadsBack {A : Type 0} (m : Reader A) (spell : A → List ℕ) (x : A) : Type 0 where
+pub record ReadsBack {A : Type 0} (m : FieldReader A) (spell : A → List ℕ) (x : A) : Type 0 where
   pub again : (rest : List ℕ) (at : ℕ) → m (record { at = at; left = spell x ++ rest }) ≡ Read x (record { at = at + length (spell x); left = rest })
 
-pub repeat_again : {A : Type 0} (m : Reader A) (spell : A → List ℕ) (xs : List A) (rest : List ℕ) (at : ℕ) → AllByRecursion (ReadsBack m spell) xs
+pub repeat_again : {A : Type 0} (m : FieldReader A) (spell : A → List ℕ) (xs : List A) (rest : List ℕ) (at : ℕ) → AllByRecursion (ReadsBack m spell) xs
     → repeat m (length xs) (record { at = at; left = flat_map spell xs ++ rest }) ≡ Read xs (record { at = at + length (flat_map spell xs); left = rest })
 unfolding repeat
 repeat_again m spell [] rest at all = let e : at + 0 ≡ at = omega arith in rw e refl

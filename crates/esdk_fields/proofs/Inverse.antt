@@ -7,7 +7,7 @@ use Rattle.esdk_fields.specs.declared.faults.Fault.{Fault}
 use Rattle.esdk_fields.specs.Bytes.{AreBytes}
 use Rattle.esdk_fields.specs.Place.{Place, past}
 use Rattle.esdk_fields.specs.Numbers.{from_big_endian, to_big_endian}
-use Rattle.esdk_fields.specs.Reading.{Reading, Read, Refused, Wanting, Reader, then_read, field, refuse_if, judge}
+use Rattle.esdk_fields.specs.Reading.{Reading, Read, Refused, Wanting, FieldReader, then_read, field, refuse_if, judge}
 use Rattle.esdk_fields.proofs.Bytes.{byte_at}
 
 pub read_same : {A : Type 0} (x y : A) (p q : Place) → Read x p ≡ Read y q → (x ≡ y) × (p ≡ q)
@@ -16,19 +16,19 @@ read_same x y p q e = (cc, cc)
 -- ---- one after the other
 
 -- both were read
-pub record ThenRead {A B : Type 0} (r : Reading A) (f : A → Reader B) (y : B) (end : Place) : Type 0 where
+pub record ThenRead {A B : Type 0} (r : Reading A) (f : A → FieldReader B) (y : B) (end : Place) : Type 0 where
   pub value : A
   pub next : Place
   pub first : r ≡ Read value next
   pub second : f value next ≡ Read y end
 
-pub then_is_read : {A B : Type 0} (r : Reading A) (f : A → Reader B) (y : B) (end : Place) → then_read r f ≡ Read y end → ThenRead r f y end
+pub then_is_read : {A B : Type 0} (r : Reading A) (f : A → FieldReader B) (y : B) (end : Place) → then_read r f ≡ Read y end → ThenRead r f y end
 then_is_read (Read x next) f y end e = record { value = x; next = next; first = refl; second = e }
 then_is_read (Refused fault at) f y end e = absurd cc
 then_is_read Wanting f y end e = absurd cc
 
 -- the second was refused
-pub record ThenRefused {A B : Type 0} (r : Reading A) (f : A → Reader B) (fault : Fault) (at : ℕ) : Type 0 where
+pub record ThenRefused {A B : Type 0} (r : Reading A) (f : A → FieldReader B) (fault : Fault) (at : ℕ) : Type 0 where
   pub value : A
   pub next : Place
   pub first : r ≡ Read value next
@@ -41,7 +41,7 @@ refusal A fault at = Refused fault at
 refusal_again : (A B : Type 0) (other fault : Fault) (end at : ℕ) → refusal B other end ≡ refusal B fault at → refusal A other end ≡ refusal A fault at
 refusal_again A B other fault end at e = cc
 
-pub then_is_refused : {A B : Type 0} (r : Reading A) (f : A → Reader B) (fault : Fault) (at : ℕ) → then_read r f ≡ Refused fault at → (r ≡ Refused fault at) ⊎ ThenRefused r f fault at
+pub then_is_refused : {A B : Type 0} (r : Reading A) (f : A → FieldReader B) (fault : Fault) (at : ℕ) → then_read r f ≡ Refused fault at → (r ≡ Refused fault at) ⊎ ThenRefused r f fault at
 then_is_refused (Read x next) f fault at e = inr (record { value = x; next = next; first = refl; second = e })
 then_is_refused {A} {B} (Refused other end) f fault at e = inl (refusal_again A B other fault end at e)
 then_is_refused Wanting f fault at e = absurd cc

@@ -5,7 +5,7 @@ use Rattle.esdk_fields.specs.declared.faults.Fault.{Fault}
 use Rattle.esdk_fields.specs.declared.stops.Stop.{Stop}
 use Rattle.esdk_fields.specs.declared.stops.Stop.TheVariants as stops
 use Rattle.esdk_fields.specs.Place.{Place}
-use Rattle.esdk_fields.specs.Reading.{Reading, Read, Refused, Wanting, Reader, then_read, done, repeat}
+use Rattle.esdk_fields.specs.Reading.{Reading, Read, Refused, Wanting, FieldReader, then_read, done, repeat}
 use Rattle.esdk_fields.specs.Gives.{StopsAt}
 
 -- what was read before, and what is still read
@@ -23,14 +23,14 @@ regroup front x (Refused fault at) = refl
 regroup front x Wanting = refl
 
 -- The loop's invariant: what was read so far, followed by what is still read from here, is the whole.
-pub record Goes {A : Type 0} (m : Reader A) (front : List A) (count i : ℕ) (p : Place) (total : Reading (List A)) : Type 0 where
+pub record Goes {A : Type 0} (m : FieldReader A) (front : List A) (count i : ℕ) (p : Place) (total : Reading (List A)) : Type 0 where
   pub so_far : with_front front (repeat m (count - i) p) ≡ total
 
-pub begins : {A : Type 0} (m : Reader A) (count : ℕ) (p : Place) → Goes m [] count 0 p (repeat m count p)
+pub begins : {A : Type 0} (m : FieldReader A) (count : ℕ) (p : Place) → Goes m [] count 0 p (repeat m count p)
 begins m count p = record { so_far = let e : count - 0 ≡ count = omega arith in rw e (with_front-nil (repeat m count p)) }
 
 -- one more was read
-pub goes_on : {A : Type 0} (m : Reader A) (front : List A) (count i : ℕ) (p : Place) (x : A) (next : Place) (total : Reading (List A)) → i < count → m p ≡ Read x next
+pub goes_on : {A : Type 0} (m : FieldReader A) (front : List A) (count i : ℕ) (p : Place) (x : A) (next : Place) (total : Reading (List A)) → i < count → m p ≡ Read x next
     → Goes m front count i p total → Goes m (front ++ x ∷ []) count (i + 1) next total
 unfolding repeat
 goes_on m front count i p x next total lt h goes =
@@ -39,7 +39,7 @@ goes_on m front count i p x next total lt h goes =
     record { so_far = sym one ∙ goes.so_far }
 
 -- the next one has a fault
-pub refused : {A : Type 0} (m : Reader A) (front : List A) (count i : ℕ) (p : Place) (fault : Fault) (at : ℕ) (total : Reading (List A)) → i < count → m p ≡ Refused fault at
+pub refused : {A : Type 0} (m : FieldReader A) (front : List A) (count i : ℕ) (p : Place) (fault : Fault) (at : ℕ) (total : Reading (List A)) → i < count → m p ≡ Refused fault at
     → Goes m front count i p total → total ≡ Refused fault at
 unfolding repeat
 refused m front count i p fault at total lt h goes =
@@ -48,7 +48,7 @@ refused m front count i p fault at total lt h goes =
     sym goes.so_far ∙ one
 
 -- more bytes are wanted for the next one
-pub wanting : {A : Type 0} (m : Reader A) (front : List A) (count i : ℕ) (p : Place) (total : Reading (List A)) → i < count → m p ≡ Wanting
+pub wanting : {A : Type 0} (m : FieldReader A) (front : List A) (count i : ℕ) (p : Place) (total : Reading (List A)) → i < count → m p ≡ Wanting
     → Goes m front count i p total → total ≡ Wanting
 unfolding repeat
 wanting m front count i p total lt h goes =
@@ -57,14 +57,14 @@ wanting m front count i p total lt h goes =
     sym goes.so_far ∙ one
 
 -- the reader of the next one stopped, for any reason
-pub stops_at : {A : Type 0} (m : Reader A) (stop : Stop) (front : List A) (count i : ℕ) (p : Place) (total : Reading (List A)) → i < count → StopsAt stop (m p)
+pub stops_at : {A : Type 0} (m : FieldReader A) (stop : Stop) (front : List A) (count i : ℕ) (p : Place) (total : Reading (List A)) → i < count → StopsAt stop (m p)
     → Goes m front count i p total → StopsAt stop total
 stops_at m stops.Memory front count i p total lt h goes = tt
 stops_at m stops.Wanting front count i p total lt h goes = wanting m front count i p total lt h goes
 stops_at m (stops.Fault fault at) front count i p total lt h goes = refused m front count i p fault at total lt h goes
 
 -- all of them were read
-pub is_done : {A : Type 0} (m : Reader A) (front : List A) (count i : ℕ) (p : Place) (total : Reading (List A)) → count ≤ i → Goes m front count i p total → total ≡ Read front p
+pub is_done : {A : Type 0} (m : FieldReader A) (front : List A) (count i : ℕ) (p : Place) (total : Reading (List A)) → count ≤ i → Goes m front count i p total → total ≡ Read front p
 unfolding repeat
 is_done m front count i p total le goes =
     let k : count - i ≡ 0 = omega arith in

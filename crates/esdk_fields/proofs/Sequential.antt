@@ -7,7 +7,7 @@ use Rattle.std.proofs.lemmas.List.{take-take, drop-take, drop-drop, length-take}
 use Rattle.esdk_fields.specs.declared.faults.Fault.{Fault}
 use Rattle.esdk_fields.specs.Place.{Place, past, cut}
 use Rattle.esdk_fields.specs.Numbers.{from_big_endian}
-use Rattle.esdk_fields.specs.Reading.{Reading, Read, Refused, Wanting, Reader, then_read, ◌>>=◌, ◌>>◌, done, field, bytes, number, here, refuse_if, judge, repeat}
+use Rattle.esdk_fields.specs.Reading.{Reading, Read, Refused, Wanting, FieldReader, then_read, ◌>>=◌, ◌>>◌, done, field, bytes, number, here, refuse_if, judge, repeat}
 use Rattle.esdk_fields.specs.Sequential.{cut_reading, EndsFrom, KeepsRest, IsSequential}
 
 -- ---- what only looks at the offset
@@ -106,16 +106,16 @@ cut_reading-late n at (Read x next) h e = rw (lt-leb next.at n (omega arith)) re
 cut_reading-late n at (Refused fault end) h e = rw (lt-leb end n (omega arith)) refl
 cut_reading-late n at Wanting h e = refl
 
-then-onward : {A B : Type 0} (r : Reading A) (f : A → Reader B) (at : ℕ) → EndsFrom at r → ((x : A) → IsSequential (f x)) → EndsFrom at (then_read r f)
+then-onward : {A B : Type 0} (r : Reading A) (f : A → FieldReader B) (at : ℕ) → EndsFrom at r → ((x : A) → IsSequential (f x)) → EndsFrom at (then_read r f)
 then-onward (Read x next) f at e s = EndsFrom-earlier at next.at (f x next) e ((s x).onward next)
 then-onward (Refused fault end) f at e s = e
 then-onward Wanting f at e s = tt
 
-then-refused : {B A : Type 0} (b : Bool) (fault : Fault) (at : ℕ) (f : A → Reader B) → then_read (cond b (Refused fault at) Wanting) f ≡ cond b (Refused fault at) Wanting
+then-refused : {B A : Type 0} (b : Bool) (fault : Fault) (at : ℕ) (f : A → FieldReader B) → then_read (cond b (Refused fault at) Wanting) f ≡ cond b (Refused fault at) Wanting
 then-refused true fault at f = refl
 then-refused false fault at f = refl
 
-then-cuts : {A B : Type 0} (r : Reading A) (f : A → Reader B) (n : ℕ) → ((x : A) → IsSequential (f x)) → then_read (cut_reading n r) f ≡ cut_reading n (then_read r f)
+then-cuts : {A B : Type 0} (r : Reading A) (f : A → FieldReader B) (n : ℕ) → ((x : A) → IsSequential (f x)) → then_read (cut_reading n r) f ≡ cut_reading n (then_read r f)
 then-cuts (Read x next) f n s =
     elim (cases_lt n next.at) [
       | inl before ↦ rw (lt-leb next.at n before) (sym (cut_reading-late n next.at (f x next) before ((s x).onward next)))
@@ -131,28 +131,28 @@ KeepsRest-later p next (Read x end) h left e k =
 KeepsRest-later p next (Refused fault at) h left e k = tt
 KeepsRest-later p next Wanting h left e k = tt
 
-then-rest : {A B : Type 0} (r : Reading A) (f : A → Reader B) (p : Place) → EndsFrom p.at r → KeepsRest p r → ((x : A) → IsSequential (f x)) → KeepsRest p (then_read r f)
+then-rest : {A B : Type 0} (r : Reading A) (f : A → FieldReader B) (p : Place) → EndsFrom p.at r → KeepsRest p r → ((x : A) → IsSequential (f x)) → KeepsRest p (then_read r f)
 then-rest (Read x next) f p e k s = KeepsRest-later p next (f x next) e k ((s x).onward next) ((s x).rest next)
 then-rest (Refused fault at) f p e k s = tt
 then-rest Wanting f p e k s = tt
 
-pub IsSequential-bind : {A B : Type 0} (m : Reader A) (f : A → Reader B) → IsSequential m → ((x : A) → IsSequential (f x)) → IsSequential (m >>= f)
+pub IsSequential-bind : {A B : Type 0} (m : FieldReader A) (f : A → FieldReader B) → IsSequential m → ((x : A) → IsSequential (f x)) → IsSequential (m >>= f)
 IsSequential-bind m f first others = record {
   onward = λ p. then-onward (m p) f p.at (first.onward p) others;
   cuts = λ n p h. ap (λ r. then_read r f) (first.cuts n p h) ∙ then-cuts (m p) f n others;
   rest = λ p. then-rest (m p) f p (first.onward p) (first.rest p) others;
 }
 
-pub IsSequential-then : {A B : Type 0} (m : Reader A) (k : Reader B) → IsSequential m → IsSequential k → IsSequential (m >> k)
+pub IsSequential-then : {A B : Type 0} (m : FieldReader A) (k : FieldReader B) → IsSequential m → IsSequential k → IsSequential (m >> k)
 IsSequential-then m k first second = IsSequential-bind m (λ _. k) first (λ _. second)
 
 -- ---- a choice of readers, and a count of them
 
-pub IsSequential-if : {A : Type 0} (b : Bool) (m k : Reader A) → IsSequential m → IsSequential k → IsSequential (cond b m k)
+pub IsSequential-if : {A : Type 0} (b : Bool) (m k : FieldReader A) → IsSequential m → IsSequential k → IsSequential (cond b m k)
 IsSequential-if true m k first second = first
 IsSequential-if false m k first second = second
 
-pub IsSequential-repeat : {A : Type 0} (m : Reader A) → IsSequential m → (n : ℕ) → IsSequential (repeat m n)
+pub IsSequential-repeat : {A : Type 0} (m : FieldReader A) → IsSequential m → (n : ℕ) → IsSequential (repeat m n)
 unfolding repeat
 IsSequential-repeat m each zero = IsSequential-done []
 IsSequential-repeat m each (suc n) =

@@ -1,6 +1,7 @@
 -- Counts of 64 bits. A count never falls, and stands still at 2^64 - 1; there its object is called
 -- worn.
-use Rattle.std.specs.Prelude.{◌≡◌, ℕ, ◌+◌, ◌-◌, ◌^◌, ◌<◌, ◌≤◌, min, Result, OnOk, OnErr, MatchResult}
+use Rattle.std.specs.Prelude.{◌≡◌, ℕ, ◌+◌, ◌-◌, ◌^◌, ◌<◌, ◌≤◌, min, Result, OnOk, OnErr}
+use Rattle.std.specs.Prelude.{MatchResult}
 
 -- a count once n more were counted
 abbrev pub counted : ℕ → ℕ → ℕ

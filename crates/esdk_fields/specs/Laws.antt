@@ -5,11 +5,11 @@ use Rattle.std.specs.Int.{Width, byte_len}
 use Rattle.esdk_fields.specs.declared.faults.Fault.{Fault}
 use Rattle.esdk_fields.specs.Place.{Place, start, cut, followed}
 use Rattle.esdk_fields.specs.Numbers.{to_big_endian}
-use Rattle.esdk_fields.specs.Reading.{Read, Refused, Wanting, Reader, number}
+use Rattle.esdk_fields.specs.Reading.{Read, Refused, Wanting, FieldReader, number}
 
 -- The judgement of some bytes stands whatever follows them, and it comes with the last byte that it
 -- rests on, no earlier and no later.
-pub record JudgesInOrder {A : Type 0} (read : Reader A) : Type 0 where
+pub record JudgesInOrder {A : Type 0} (read : FieldReader A) : Type 0 where
   pub fault_stays : (bytes more : List ℕ) (fault : Fault) (at : ℕ)
       → read (start bytes) ≡ Refused fault at → read (start (bytes ++ more)) ≡ Refused fault at
   pub fault_comes : (bytes : List ℕ) (fault : Fault) (at n : ℕ)

@@ -2,7 +2,7 @@
 -- judged at its last byte.
 use Rattle.std.specs.Prelude.{◌≡◌, ℕ, ◌-◌, ◌≤◌, drop, nat_le, if◌then◌else◌}
 use Rattle.esdk_fields.specs.Place.{Place, cut}
-use Rattle.esdk_fields.specs.Reading.{Reading, Read, Refused, Wanting, Reader}
+use Rattle.esdk_fields.specs.Reading.{Reading, Read, Refused, Wanting, FieldReader}
 
 -- what is known of the reading when only the bytes before offset n have come
 abbrev pub cut_reading : {A : Type 0} → ℕ → Reading A → Reading A
@@ -24,7 +24,7 @@ KeepsRest p Wanting = Unit {0}
 
 -- Reading goes from left to right; it judges each field at its last byte, no earlier and no later;
 -- and it leaves the bytes that follow alone.
-pub record IsSequential {A : Type 0} (read : Reader A) : Type 0 where
+pub record IsSequential {A : Type 0} (read : FieldReader A) : Type 0 where
   pub onward : (p : Place) → EndsFrom p.at (read p)
   pub cuts : (n : ℕ) (p : Place) → p.at ≤ n → read (cut n p) ≡ cut_reading n (read p)
   pub rest : (p : Place) → KeepsRest p (read p)

@@ -3,7 +3,7 @@
 
 ghost use Rattle.std.specs.Prelude.{ℕ, ◌^◌};
 ghost use Rattle.std.specs.Int.{Width, w8, w16, w32, w64};
-ghost use Rattle.esdk_fields.specs.Reading.{Reader, bytes, number, repeat};
+ghost use Rattle.esdk_fields.specs.Reading.{FieldReader, bytes, number, repeat};
 ghost use Rattle.esdk_fields.specs.Sequential.{IsSequential};
 ghost use Rattle.esdk_fields.specs.Laws.{JudgesInOrder, ReadsBackNumbers};
 
@@ -18,7 +18,7 @@ pub fn fields_come_in_order()
 /// What a sequential reader says of some bytes stands whatever follows them, and comes with the
 /// last byte that it rests on, of whatever type its values are.
 pub fn judgement_stands<A>()
-    ensures { (read : Reader A) → IsSequential read → JudgesInOrder read }
+    ensures { (read : FieldReader A) → IsSequential read → JudgesInOrder read }
 {}
 
 /// A number that was written is read back, at each width.

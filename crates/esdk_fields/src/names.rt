@@ -2,7 +2,8 @@
 //! Commitment`.
 
 ghost use Rattle.std.specs.Prelude.{◌≡◌};
-ghost use Rattle.esdk_fields.specs.Names.{kind_name, fault_name, refusal_name, file_name, outside_name};
+ghost use Rattle.esdk_fields.specs.Names.{kind_name, fault_name, refusal_name, file_name};
+ghost use Rattle.esdk_fields.specs.Names.{outside_name};
 
 use crate::faults::{ContextFault, Fault};
 use crate::refusals::{FileRefusal, Outside, Refusal};

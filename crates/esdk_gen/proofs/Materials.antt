@@ -27,16 +27,16 @@ use Rattle.keyring_trait.specs.Wrapping.{WrapKeyValue, made, wrap}
 use Rattle.keyring_trait.proofs.Made.{wrap_is_entry}
 use Rattle.cmm_default.specs.DefaultCmm.{default_now}
 use Rattle.raw_aes_keyring.specs.Keyring.{raw_meaning}
-use Rattle.stream_seal.specs.Session.{new_session}
-use Rattle.stream_seal.specs.Start.{start_refusal}
+use Rattle.stream_seal.specs.Session.{new_sealing_session}
+use Rattle.stream_seal.specs.Start.{start_refusal, drawn_rest}
 use Rattle.desk_core.specs.declared.errors.DeskError.{DeskError}
 use Rattle.desk_core.specs.declared.errors.DeskError.TheVariants as errors
 use Rattle.desk_core.specs.declared.live_sessions.Desk.{Desk}
 use Rattle.desk_core.specs.Calls.{IsReply, OpensSeal}
-use Rattle.desk_core.specs.Desk.{DeskValue, OpenSeal, after_call}
+use Rattle.desk_core.specs.Desk.{DeskValue, OpenSeal, after_desk_call}
 use Rattle.desk_core.specs.Stands.{manager_of}
-use Rattle.desk_core.specs.Session.{Fails, Gives, NoReply, Refuses, Reply, Sealing, begun, rest_in, seal_opened}
-use Rattle.esdk_gen.specs.Generator.{gen_context, key_of, materials_of}
+use Rattle.desk_core.specs.Session.{Fails, Gives, NoReply, Refuses, Reply, Sealing, begun_turn, seal_opened}
+use Rattle.esdk_gen.specs.Generator.{gen_context, generator_key, generator_materials}
 use Rattle.esdk_gen.specs.Sealing.{IsIdle, IsNewSession, gen_request, gen_session}
 
 -- ---- the context
@@ -62,14 +62,14 @@ never_refused_pair = refl
 
 -- ---- one entry
 
-pub gen_is_entry : (key data_key iv : List ℕ) → length data_key ≡ 32 → length iv ≡ 12 → IsEntry (wrap (key_of key) gen_context iv data_key)
-gen_is_entry key data_key iv long twelve = wrap_is_entry (key_of key) gen_context iv data_key (omega arith) (omega arith) twelve long
+pub gen_is_entry : (key data_key iv : List ℕ) → length data_key ≡ 32 → length iv ≡ 12 → IsEntry (wrap (generator_key key) gen_context iv data_key)
+gen_is_entry key data_key iv long twelve = wrap_is_entry (generator_key key) gen_context iv data_key (omega arith) (omega arith) twelve long
 
 -- the header of it is short
 pub gen_short : (key data_key iv id : List ℕ) → length data_key ≡ 32 → length iv ≡ 12 → length id ≡ 32
-    → keys_end (committing id) gen_context (wrap (key_of key) gen_context iv data_key ∷ []) ≤ latest_end
+    → keys_end (committing id) gen_context (wrap (generator_key key) gen_context iv data_key ∷ []) ≤ latest_end
 gen_short key data_key iv id long twelve id_long =
-    let e : Entry = wrap (key_of key) gen_context iv data_key in
+    let e : Entry = wrap (generator_key key) gen_context iv data_key in
     let is : IsEntry e = gen_is_entry key data_key iv long twelve in
     omega (
       arith,
@@ -84,9 +84,9 @@ gen_short key data_key iv id long twelve id_long =
       is.cipher,
     )
 
-pub starts : (key data_key iv id : List ℕ) → length data_key ≡ 32 → length iv ≡ 12 → length id ≡ 32 → start_refusal (materials_of key data_key iv) None id ≡ None
+pub starts : (key data_key iv id : List ℕ) → length data_key ≡ 32 → length iv ≡ 12 → length id ≡ 32 → start_refusal (generator_materials key data_key iv) None id ≡ None
 starts key data_key iv id long twelve id_long =
-    rw (le-ltb latest_end (keys_end (committing id) gen_context (wrap (key_of key) gen_context iv data_key ∷ [])) (gen_short key data_key iv id long twelve id_long)) refl
+    rw (le-ltb latest_end (keys_end (committing id) gen_context (wrap (generator_key key) gen_context iv data_key ∷ [])) (gen_short key data_key iv id long twelve id_long)) refl
 
 -- ---- the manager
 
@@ -103,25 +103,25 @@ abbrev pub Replies : WrapKeyValue → WrapKeyValue → List ℕ → Bool → Rep
 Replies old new random short reply = IsReply (saying old new) gen_request 0 random short reply
 
 -- nothing is refused
-unrefused : (key : List ℕ) → request_refusal (manager_now (key_of key)).meaning gen_context ≡ None
+unrefused : (key : List ℕ) → request_refusal (manager_now (generator_key key)).meaning gen_context ≡ None
 unfolding request_refusal
 unrefused key = refl
 
 -- its materials are those of the random bytes
 gives : (key random : List ℕ) (m : EncMaterialsValue) → length random ≡ 76
-    → GivesMaterials (manager_now (key_of key)) gen_request.wish (rest_in random) m
-    → m ≡ materials_of key (take 32 (drop 32 random)) (drop 64 random)
+    → GivesMaterials (manager_now (generator_key key)) gen_request.wish (drawn_rest random) m
+    → m ≡ generator_materials key (take 32 (drop 32 random)) (drop 64 random)
 gives key random m long given =
     let direct : m.served ≡ Direct = given.plain refl in
-    let drawn : AreDrawn 1 (manager_now (key_of key)).tells (rest_in random) m =
+    let drawn : AreDrawn 1 (manager_now (generator_key key)).tells (drawn_rest random) m =
     given.fresh refl (subst (λ (s : Served). IsNew s) (sym direct) tt) in
-    let iv : take 12 (drop 32 (rest_in random)) ≡ drop 64 random =
+    let iv : take 12 (drop 32 (drawn_rest random)) ≡ drop 64 random =
     ap (take 12) (drop-drop 32 32 random)
     ∙ take_all 12 (drop 64 random) (omega (arith, length-drop 64 random, long)) in
-    let entries : m.entries ≡ made (key_of key ∷ []) gen_context (take 32 (rest_in random))
+    let entries : m.entries ≡ made (generator_key key ∷ []) gen_context (take 32 (drawn_rest random))
     (drop 64 random ∷ []) =
-    drawn.entries (key_of key ∷ []) refl
-    ∙ (λ i. made (key_of key ∷ []) (given.context i) (drawn.key i) (iv i ∷ [])) in
+    drawn.entries (generator_key key ∷ []) refl
+    ∙ (λ i. made (generator_key key ∷ []) (given.context i) (drawn.key i) (iv i ∷ [])) in
     λ i. record {
       context = given.context i;
       required = given.demanded tt i;
@@ -148,7 +148,7 @@ module _ (key random : List ℕ) (new : WrapKeyValue) (long : length random ≡ 
   iv_long = omega (arith, length-drop 64 random, long)
 
   -- no message of its materials is refused
-  never_refused : (m : EncMaterialsValue) → Replies (key_of key) new random false (Gives m)
+  never_refused : (m : EncMaterialsValue) → Replies (generator_key key) new random false (Gives m)
       → start_refusal m None (take 32 random) ≡ None
   never_refused m given =
       ap (λ (x : EncMaterialsValue). start_refusal x None (take 32 random))
@@ -157,20 +157,20 @@ module _ (key random : List ℕ) (new : WrapKeyValue) (long : length random ≡ 
       id_long
 
   begun_so : (m : EncMaterialsValue) (id number : ℕ)
-      → Replies (key_of key) new random false (Gives m) → (refusal : Option Refusal)
+      → Replies (generator_key key) new random false (Gives m) → (refusal : Option Refusal)
       → refusal ≡ None
-      → Ok id ≡ (begun gen_request random m number refusal).answer
+      → Ok id ≡ (begun_turn gen_request random m number refusal).answer
       → (id ≡ number)
-      × ((begun gen_request random m number refusal).left ≡ Some (Sealing (gen_session key random)))
+      × ((begun_turn gen_request random m number refusal).left ≡ Some (Sealing (gen_session key random)))
   begun_so m id number given (Some refusal) none is = absurd cc
   begun_so m id number given None none is = (
     cc,
-    ap (λ (x : EncMaterialsValue). Some (Sealing (new_session x None 4096 (take 32 random))))
+    ap (λ (x : EncMaterialsValue). Some (Sealing (new_sealing_session x None 4096 (take 32 random))))
         (gives key random m long given.0.0),
   )
 
   pub begins : (id number : ℕ) (reply : Reply) (short : Bool)
-      → Replies (key_of key) new random short reply
+      → Replies (generator_key key) new random short reply
       → Ok id ≡ (seal_opened gen_request random reply short number).answer
       → Begins key random id reply short number
   begins id number NoReply short replies is = absurd cc
@@ -182,13 +182,13 @@ module _ (key random : List ℕ) (new : WrapKeyValue) (long : length random ≡ 
   begins id number (Refuses refusal) short replies is = absurd cc
   begins id number Fails short replies is = absurd cc
 
-  begun_not : (m : EncMaterialsValue) (number : ℕ) (error : DeskError) (refusal : Option Refusal) → refusal ≡ None → Err error ≡ (begun gen_request random m number refusal).answer → error ≡ errors.Memory
+  begun_not : (m : EncMaterialsValue) (number : ℕ) (error : DeskError) (refusal : Option Refusal) → refusal ≡ None → Err error ≡ (begun_turn gen_request random m number refusal).answer → error ≡ errors.Memory
   begun_not m number error (Some refusal) none is = absurd cc
   begun_not m number error None none is = absurd cc
 
   -- only memory can be wanting
   pub begins_not : (number : ℕ) (error : DeskError) (reply : Reply) (short : Bool)
-      → Replies (key_of key) new random short reply
+      → Replies (generator_key key) new random short reply
       → Err error ≡ (seal_opened gen_request random reply short number).answer
       → error ≡ errors.Memory
   begins_not number error NoReply short replies is = cc
@@ -203,11 +203,11 @@ module _ (key random : List ℕ) (new : WrapKeyValue) (long : length random ≡ 
 -- ---- the desk after it
 
 -- a manager that tells this one key is over it
-pub same_ring : (old new : WrapKeyValue) (key : List ℕ) → old ≡ key_of key
-    → TellsOn (manager_now old).tells (manager_now new).tells → new ≡ key_of key
+pub same_ring : (old new : WrapKeyValue) (key : List ℕ) → old ≡ generator_key key
+    → TellsOn (manager_now old).tells (manager_now new).tells → new ≡ generator_key key
 same_ring old new key ring tells =
-    let told : Some (new ∷ []) ≡ Some (key_of key ∷ []) =
-    tells (key_of key ∷ []) (ap (λ (w : WrapKeyValue). Some (w ∷ [])) ring) in cc
+    let told : Some (new ∷ []) ≡ Some (generator_key key ∷ []) =
+    tells (generator_key key ∷ []) (ap (λ (w : WrapKeyValue). Some (w ∷ [])) ring) in cc
 
 module _ (desk next : Desk WrapKeyValue) (key random : List ℕ) (last : ℕ)
     (idle : IsIdle desk key last) (long : length random ≡ 76) where
@@ -225,7 +225,7 @@ module _ (desk next : Desk WrapKeyValue) (key random : List ℕ) (last : ℕ)
       let is : Begins key random id o.reply o.short number =
       begins key random (manager_of next) long id number o.reply o.short replies o.answer in
       record {
-        value = after_call v number o.short (OpenSeal gen_request 0 random o.reply);
+        value = after_desk_call v number o.short (OpenSeal gen_request 0 random o.reply);
         stands = o.stands;
         drawn = sym is.same;
         ring = same_ring (manager_of desk) (manager_of next) key idle.ring tells;

@@ -4,6 +4,7 @@ use Rattle.std.specs.Prelude.{option_map}
 use Rattle.std.proofs.lemmas.Map.{update_here}
 use Rattle.esdk_base.specs.declared.receiver.FeedError.{FeedError}
 use Rattle.esdk_base.specs.declared.receiver.FeedError.TheVariants as feeding
+use Rattle.esdk_base.specs.Receiver.{Gathers}
 use Rattle.keyring_trait.specs.Manager.{ManagerNow}
 use Rattle.keyring_trait.specs.Wrapping.{WrapKeyValue}
 use Rattle.stream_seal.specs.Session as seal
@@ -17,19 +18,18 @@ use Rattle.desk_core.specs.declared.errors.DeskError.TheVariants as errors
 use Rattle.desk_core.specs.declared.live_sessions.Desk.{Desk}
 use Rattle.desk_core.specs.Desk.{open_lines}
 use Rattle.desk_core.specs.Receiving.{FeedsInto, FeedsSealing, FeedsSession, FinishesSealing, FinishesSession, handed_over}
-use Rattle.desk_core.specs.Session.{SessionValue, Sealing, header_of}
+use Rattle.desk_core.specs.Session.{SessionValue, Sealing, sealed_header}
 use Rattle.desk_core.specs.Stands.{Stands, manager_of}
 use Rattle.esdk_gen.specs.Generator.{message_with}
-use Rattle.esdk_gen.specs.Receivers.{Gathers}
-use Rattle.esdk_gen.specs.Sealing.{IsIdle, IsNewSession, IsSealing, SealsText, gen_session}
+use Rattle.esdk_gen.specs.Sealing.{IsIdle, IsNewSession, GeneratorIsSealing, SealsText, gen_session}
 
 -- ---- a session that begins
 
-begins_with : (s : SealingValue) (live : Option SessionValue) (header : List ℕ) → live ≡ Some (Sealing s) → option_map header_of live ≡ Some header → header ≡ beginning s
-begins_with s live header is header_is = let here : Some (beginning s) ≡ Some header = sym (ap (option_map header_of) is) ∙ header_is in cc
+begins_with : (s : SealingValue) (live : Option SessionValue) (header : List ℕ) → live ≡ Some (Sealing s) → option_map sealed_header live ≡ Some header → header ≡ beginning s
+begins_with s live header is header_is = let here : Some (beginning s) ≡ Some header = sym (ap (option_map sealed_header) is) ∙ header_is in cc
 
-pub seals_first : (desk : Desk WrapKeyValue) (key random : List ℕ) (id : ℕ) (header : List ℕ) → (new : IsNewSession desk key random id) → option_map header_of (new.value.live id) ≡ Some header
-    → IsSealing desk key id (gen_session key random) header
+pub seals_first : (desk : Desk WrapKeyValue) (key random : List ℕ) (id : ℕ) (header : List ℕ) → (new : IsNewSession desk key random id) → option_map sealed_header (new.value.live id) ≡ Some header
+    → GeneratorIsSealing desk key id (gen_session key random) header
 seals_first desk key random id header new is =
     let s : SealingValue = gen_session key random in
     let begun = begin_fed s.materials None 4096 s.id (omega arith) in
@@ -49,7 +49,7 @@ room_of s count undeclared size few =
     omega (arith, most, few)
 
 module _ {E : Type 0} (state : WrapKeyValue → ManagerNow) (fails : List ℕ → List ℕ → List ℕ → E → Type 0) (desk next : Desk WrapKeyValue) (key : List ℕ) (id : ℕ) (s : SealingValue)
-    (piece message after : List ℕ) (sealing : IsSealing desk key id s message) (few : length s.taken + length piece ≤ 67108864) where
+    (piece message after : List ℕ) (sealing : GeneratorIsSealing desk key id s message) (few : length s.taken + length piece ≤ 67108864) where
   -- the piece was fed to this session
   fed_as : (result : Result (Unit {0}) (FeedError DeskError E)) → (f : FeedsInto state Gathers fails sealing.at.value id 0 piece desk next message after result)
       → FeedsSession state Gathers fails 0 (Some (Sealing s)) piece (manager_of desk) (manager_of next) message after f.heard f.left result
@@ -103,7 +103,7 @@ module _ {E : Type 0} (state : WrapKeyValue → ManagerNow) (fails : List ℕ �
 same_twice : (s t u : SealingValue) → IsSameMessage s t → IsSameMessage t u → IsSameMessage s u
 same_twice s t u a b = record { materials = b.materials ∙ a.materials; declared = b.declared ∙ a.declared; size = b.size ∙ a.size; id = b.id ∙ a.id }
 
-pub text_none : (desk : Desk WrapKeyValue) (key : List ℕ) (id : ℕ) (s : SealingValue) (text message : List ℕ) → IsSealing desk key id s message → s.taken ≡ text → SealsText desk key id s text message
+pub text_none : (desk : Desk WrapKeyValue) (key : List ℕ) (id : ℕ) (s : SealingValue) (text message : List ℕ) → GeneratorIsSealing desk key id s message → s.taken ≡ text → SealsText desk key id s text message
 text_none desk key id s text message sealing none = record {
   session = s;
   sealing = sealing;
@@ -122,20 +122,20 @@ text_more next key id s text piece after t same taken more = record {
 
 -- ---- the end
 
-module _ {E : Type 0} (fails : List ℕ → List ℕ → List ℕ → E → Type 0) (desk : Desk WrapKeyValue) (key : List ℕ) (id : ℕ) (s : SealingValue) (message after : List ℕ) (sealing : IsSealing desk key id s message) where
+module _ {E : Type 0} (fails : List ℕ → List ℕ → List ℕ → E → Type 0) (desk : Desk WrapKeyValue) (key : List ℕ) (id : ℕ) (s : SealingValue) (message after : List ℕ) (sealing : GeneratorIsSealing desk key id s message) where
   ended_as : (result : Result (Unit {0}) (FeedError DeskError E)) → FinishesSession Gathers fails (sealing.at.value.live id) message after result
       → FinishesSealing Gathers fails s message after result
   ended_as result ends = subst (λ (o : Option SessionValue). FinishesSession Gathers fails o message after result) sealing.at.live ends
 
   pub end_gives : FinishesSession {T = Unit {0}} Gathers fails (sealing.at.value.live id) message after (Ok tt) → after ≡ message_of s.materials s.size s.id s.taken
-  end_gives ends = ended_as (Ok tt) ends ∙ ap (λ (b : List ℕ). b ++ (seal.finished s).out) sealing.written ∙ finishes s sealing.is_fed
+  end_gives ends = ended_as (Ok tt) ends ∙ ap (λ (b : List ℕ). b ++ (seal.sealing_finished s).out) sealing.written ∙ finishes s sealing.is_fed
 
   pub end_never : (error : FeedError DeskError E) → FinishesSession {T = Unit {0}} Gathers fails (sealing.at.value.live id) message after (Err error) → (machine : DeskError)
       → error ≡ feeding.Machine machine → ⊥
   end_never error ends machine is =
       subst (λ (e : FeedError DeskError E). FinishesSealing {T = Unit {0}} Gathers fails s message after (Err e)) is (ended_as (Err error) ends)
 
-pub end_idle : (desk next : Desk WrapKeyValue) (key : List ℕ) (id : ℕ) (s : SealingValue) (message : List ℕ) → (sealing : IsSealing desk key id s message)
+pub end_idle : (desk next : Desk WrapKeyValue) (key : List ℕ) (id : ℕ) (s : SealingValue) (message : List ℕ) → (sealing : GeneratorIsSealing desk key id s message)
     → Stands next (handed_over sealing.at.value id [] None) → manager_of next ≡ manager_of desk → IsIdle next key id
 end_idle desk next key id s message sealing stands same = record {
   value = handed_over sealing.at.value id [] None;

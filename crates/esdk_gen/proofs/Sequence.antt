@@ -2,7 +2,7 @@
 use Rattle.std.proofs.Common.{◌≡◌, ◌∙◌, ℕ, zero, suc, ◌+◌, ◌-◌, ◌*◌, ◌%◌, ◌^◌, ◌≤◌, List, [], ◌∷◌, ◌++◌, length, take, drop, refl, sym, ap, arith}
 use Rattle.std.proofs.Math.Nat.{mod-add-mod}
 use Rattle.std.proofs.lemmas.List.{drop_at, take_at}
-use Rattle.esdk_gen.specs.Bytes.{byte_of, gen_bytes, next_state, part, state_after}
+use Rattle.esdk_gen.specs.Bytes.{top_byte, gen_bytes, next_state, seed_part, state_after}
 
 -- the code takes the remainder after each of the two operations
 pub stepped : (x : ℕ) → (x * 6364136223846793005 % 2 ^ 64 + 1442695040888963407) % 2 ^ 64 ≡ next_state x
@@ -31,19 +31,19 @@ pub bytes_add : (x a b : ℕ) → gen_bytes x (a + b) ≡ gen_bytes x a ++ gen_b
 unfolding gen_bytes state_after
 bytes_add x zero b = let e : 0 + b ≡ b = omega arith in rw e refl
 bytes_add x (suc a) b =
-    let e : suc a + b ≡ suc (a + b) = omega arith in rw e (ap (λ (l : List ℕ). byte_of (next_state x) ∷ l) (bytes_add (next_state x) a b))
+    let e : suc a + b ≡ suc (a + b) = omega arith in rw e (ap (λ (l : List ℕ). top_byte (next_state x) ∷ l) (bytes_add (next_state x) a b))
 
 -- one byte more
 pub state_push : (x n : ℕ) → state_after x (n + 1) ≡ next_state (state_after x n)
 unfolding state_after
 state_push x n = state_add x n 1
 
-pub bytes_push : (x n : ℕ) → gen_bytes x (n + 1) ≡ gen_bytes x n ++ byte_of (next_state (state_after x n)) ∷ []
+pub bytes_push : (x n : ℕ) → gen_bytes x (n + 1) ≡ gen_bytes x n ++ top_byte (next_state (state_after x n)) ∷ []
 unfolding gen_bytes
 bytes_push x n = bytes_add x n 1
 
 -- a part is what follows from the state before it
-pub part_is : (seed from count : ℕ) → part seed from count ≡ gen_bytes (state_after seed from) count
+pub part_is : (seed from count : ℕ) → seed_part seed from count ≡ gen_bytes (state_after seed from) count
 part_is seed from count = ap (drop from) (bytes_add seed from count) ∙ drop_at (gen_bytes seed from) (gen_bytes (state_after seed from) count) from (length-gen_bytes seed from)
 
 -- ---- a text that is made piece by piece

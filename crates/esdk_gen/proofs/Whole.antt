@@ -3,6 +3,7 @@ use Rattle.std.proofs.Common.{◌≡◌, ◌∙◌, ℕ, ◌≤◌, List, [], �
 use Rattle.std.specs.Prelude.{Contains}
 use Rattle.std.proofs.lemmas.List.{length-drop, length-take}
 use Rattle.std.proofs.lemmas.List.Elements.{All-cons, All-nil}
+use Rattle.header_codec.specs.Header.{no_limits}
 use Rattle.context_codec.proofs.Members.{Contains-head, Contains-cases, Contains-nil}
 use Rattle.edk_codec.specs.Entry.{IsEntry}
 use Rattle.keyring_trait.specs.Laws.{AreApart, AreWrapped, IsEnough, IsSameKey}
@@ -15,8 +16,8 @@ use Rattle.message_format.specs.Laws.{IsWithinLimits, whole_of_text}
 use Rattle.message_format.proofs.RoundTrip.{unlocks_written}
 use Rattle.message_format.proofs.WrittenMessages.{message_is, text_released}
 use Rattle.stream_seal.specs.Start.{message_of}
-use Rattle.esdk_gen.specs.Generator.{gen_context, key_of, materials_of, message_with}
-use Rattle.esdk_gen.specs.Opening.{IsWhole, no_limits, unlocked_by}
+use Rattle.esdk_gen.specs.Generator.{gen_context, generator_key, generator_materials, message_with}
+use Rattle.esdk_gen.specs.Opening.{IsWholeUnder, unlocked_under}
 use Rattle.esdk_gen.proofs.Materials.{gen_is_context, gen_is_entry, gen_short}
 
 -- one wrapping key is apart from none but others
@@ -30,7 +31,7 @@ one_apart w u v wrote read names spaces = same (is w u wrote) (is w v read)
     same e f = let g : u ≡ v = sym e ∙ f in record { namespace = ap (λ (x : WrapKeyValue). x.namespace) g; name = ap (λ (x : WrapKeyValue). x.name) g; key = ap (λ (x : WrapKeyValue). x.key) g }
 
 module _ (key data_key iv id text : List ℕ) (long : length data_key ≡ 32) (twelve : length iv ≡ 12) (id_long : length id ≡ 32) (few : length text ≤ 67108864) where
-  writable : IsWritable text gen_context [] 4096 data_key (made (key_of key ∷ []) gen_context data_key (iv ∷ [])) id
+  writable : IsWritable text gen_context [] 4096 data_key (made (generator_key key ∷ []) gen_context data_key (iv ∷ [])) id
   writable = record {
     some = omega arith;
     narrow = omega arith;
@@ -39,35 +40,35 @@ module _ (key data_key iv id text : List ℕ) (long : length data_key ≡ 32) (t
     held = search rules;
     entries_some = omega arith;
     entries_few = omega arith;
-    entries_are = All-cons IsEntry (wrap (key_of key) gen_context iv data_key) [] (gen_is_entry key data_key iv long twelve) (All-nil IsEntry);
+    entries_are = All-cons IsEntry (wrap (generator_key key) gen_context iv data_key) [] (gen_is_entry key data_key iv long twelve) (All-nil IsEntry);
     entries_end = gen_short key data_key iv id long twelve id_long;
     key_long = long;
     id_long = id_long;
   }
 
-  wrapped : AreWrapped (key_of key ∷ []) (key_of key ∷ []) gen_context data_key (made (key_of key ∷ []) gen_context data_key (iv ∷ []))
+  wrapped : AreWrapped (generator_key key ∷ []) (generator_key key ∷ []) gen_context data_key (made (generator_key key ∷ []) gen_context data_key (iv ∷ []))
   wrapped =
-      (made_is_wrapped (key_of key ∷ []) (key_of key ∷ []) gen_context data_key (iv ∷ []) (key_of key) (key_of key)
-      (record { enough = refl; long = All-cons (λ (i : List ℕ). length i ≡ 12) iv [] twelve (All-nil (λ (i : List ℕ). length i ≡ 12)) }) long (one_apart (key_of key)) (Contains-head (key_of key) []) (Contains-head (key_of key) [])
+      (made_is_wrapped (generator_key key ∷ []) (generator_key key ∷ []) gen_context data_key (iv ∷ []) (generator_key key) (generator_key key)
+      (record { enough = refl; long = All-cons (λ (i : List ℕ). length i ≡ 12) iv [] twelve (All-nil (λ (i : List ℕ). length i ≡ 12)) }) long (one_apart (generator_key key)) (Contains-head (generator_key key) []) (Contains-head (generator_key key) [])
       (record { namespace = refl; name = refl; key = refl })).0
 
-  limits : IsWithinLimits no_limits 4096 (made (key_of key ∷ []) gen_context data_key (iv ∷ []))
+  limits : IsWithinLimits no_limits 4096 (made (generator_key key ∷ []) gen_context data_key (iv ∷ []))
   limits = record { max_keys = tt; max_unit = tt }
 
   enough : IsEnough gen_context [] []
   enough = record { ascending = search rules; required_given = λ p listed among. absurd cc; others = λ p listed. absurd (Contains-nil p listed) }
 
-  unlocks : unlocked_by key (message_of (materials_of key data_key iv) 4096 id text) ≡ Unlocks gen_context [] data_key
+  unlocks : unlocked_under key (message_of (generator_materials key data_key iv) 4096 id text) ≡ Unlocks gen_context [] data_key
   unlocks =
-      unlocks_written text gen_context [] 4096 data_key (made (key_of key ∷ []) gen_context data_key (iv ∷ [])) id no_limits (key_of key ∷ []) (key_of key ∷ []) [] []
+      unlocks_written text gen_context [] 4096 data_key (made (generator_key key ∷ []) gen_context data_key (iv ∷ [])) id no_limits (generator_key key ∷ []) (generator_key key ∷ []) [] []
       writable limits wrapped refl enough (λ k listed. absurd (Contains-nil k listed))
 
-  judges : judged (message_of (materials_of key data_key iv) 4096 id text) no_limits (unlocked_by key (message_of (materials_of key data_key iv) 4096 id text)) ≡ whole_of_text text 4096
+  judges : judged (message_of (generator_materials key data_key iv) 4096 id text) no_limits (unlocked_under key (message_of (generator_materials key data_key iv) 4096 id text)) ≡ whole_of_text text 4096
   judges =
-      ap (judged (message_of (materials_of key data_key iv) 4096 id text) no_limits) unlocks
-      ∙ message_is no_limits text gen_context [] 4096 data_key (made (key_of key ∷ []) gen_context data_key (iv ∷ [])) id gen_context writable limits
+      ap (judged (message_of (generator_materials key data_key iv) 4096 id text) no_limits) unlocks
+      ∙ message_is no_limits text gen_context [] 4096 data_key (made (generator_key key ∷ []) gen_context data_key (iv ∷ [])) id gen_context writable limits
 
-  pub is_whole : IsWhole key (message_of (materials_of key data_key iv) 4096 id text) text
+  pub is_whole : IsWholeUnder key (message_of (generator_materials key data_key iv) 4096 id text) text
   is_whole = record {
     context = gen_context;
     only = [];
@@ -79,7 +80,7 @@ module _ (key data_key iv id text : List ℕ) (long : length data_key ≡ 32) (t
   }
 
 -- the message of these random bytes
-pub with_is_whole : (key random text : List ℕ) → length random ≡ 76 → length text ≤ 67108864 → IsWhole key (message_with key random text) text
+pub with_is_whole : (key random text : List ℕ) → length random ≡ 76 → length text ≤ 67108864 → IsWholeUnder key (message_with key random text) text
 unfolding message_with
 with_is_whole key random text long few =
     is_whole key (take 32 (drop 32 random)) (drop 64 random) (take 32 random) text

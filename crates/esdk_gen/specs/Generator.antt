@@ -8,40 +8,46 @@ use Rattle.keyring_trait.specs.Materials.{EncMaterialsValue}
 use Rattle.keyring_trait.specs.Wrapping.{WrapKeyValue, made}
 use Rattle.body_format.specs.Written.{frame_count}
 use Rattle.stream_seal.specs.Start.{message_of}
-use Rattle.esdk_gen.specs.Bytes.{part}
+use Rattle.esdk_gen.specs.Bytes.{seed_part}
 
 -- ---- the message
 
 -- the wrapping key of these bytes
-abbrev pub key_of : List ℕ → WrapKeyValue
-key_of key = record { namespace = codes "gen"; name = codes "gen"; key = key; retired = false }
+abbrev pub generator_key : List ℕ → WrapKeyValue
+generator_key key =
+    record { namespace = codes "gen"; name = codes "gen"; key = key; retired = false }
 
 abbrev pub gen_context : List KeyValue
 gen_context = (codes "purpose", codes "gen") ∷ []
 
--- a data key with its wrap under the wrapping key, by this IV; no key of the context is required of the reader
-abbrev pub materials_of : List ℕ → List ℕ → List ℕ → EncMaterialsValue
-materials_of key data_key iv = record {
+-- a data key with its wrap under the wrapping key, by this IV; no key of the context is required of
+-- the reader
+abbrev pub generator_materials : List ℕ → List ℕ → List ℕ → EncMaterialsValue
+generator_materials key data_key iv = record {
   context = gen_context;
   required = [];
   key = data_key;
-  entries = made (key_of key ∷ []) gen_context data_key (iv ∷ []);
+  entries = made (generator_key key ∷ []) gen_context data_key (iv ∷ []);
   served = Direct;
 }
 
--- The message of a text: among the random bytes stand 32 of message id, 32 of data key, and 12 of IV.
+-- The message of a text: among the random bytes stand 32 of message id, 32 of data key, and 12 of
+-- IV.
 unfoldable pub message_with : List ℕ → List ℕ → List ℕ → List ℕ
-message_with key random text = message_of (materials_of key (take 32 (drop 32 random)) (drop 64 random)) 4096 (take 32 random) text
+message_with key random text = message_of
+    (generator_materials key (take 32 (drop 32 random)) (drop 64 random)) 4096 (take 32 random) text
 
--- Of the bytes of a seed the first 32 are the wrapping key; then come the random bytes, and then the text.
+-- Of the bytes of a seed the first 32 are the wrapping key; then come the random bytes, and then
+-- the text.
 unfoldable pub gen_message : ℕ → ℕ → List ℕ
-gen_message seed size = message_with (part seed 0 32) (part seed 32 76) (part seed 108 size)
+gen_message seed size =
+    message_with (seed_part seed 0 32) (seed_part seed 32 76) (seed_part seed 108 size)
 
 -- ---- the line
 
 -- the line of a text of so many bytes, of its message, and of how many bytes were opened of that
-unfoldable pub line_of : ℕ → List ℕ → ℕ → List ℕ
-line_of size message opened =
+unfoldable pub generator_line : ℕ → List ℕ → ℕ → List ℕ
+generator_line size message opened =
     codes "size=" ++ decimal size
     ++ codes " frames=" ++ decimal (frame_count size 4096)
     ++ codes " message=" ++ decimal (length message)
@@ -51,4 +57,4 @@ line_of size message opened =
 
 -- what a run tells: as many bytes were opened as were sealed
 unfoldable pub gen_line : ℕ → ℕ → List ℕ
-gen_line seed size = line_of size (gen_message seed size) size
+gen_line seed size = generator_line size (gen_message seed size) size

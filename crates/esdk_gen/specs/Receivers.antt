@@ -1,8 +1,5 @@
 -- What takes the bytes that the desk gives: one keeps them, one counts them.
-use Rattle.std.specs.Prelude.{◌≡◌, ◌≤◌, ℕ, ◌+◌, ◌^◌, List, ◌++◌, length}
-
-abbrev pub Gathers : List ℕ → List ℕ → List ℕ → Type 0
-Gathers old new bytes = new ≡ old ++ bytes
+use Rattle.std.specs.Prelude.{◌≡◌, ◌≤◌, ℕ, ◌+◌, ◌^◌, List, length}
 
 abbrev pub Counts : ℕ → ℕ → List ℕ → Type 0
 Counts old new bytes = new ≡ old + length bytes

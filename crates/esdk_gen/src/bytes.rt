@@ -1,7 +1,7 @@
 //! The bytes of a seed.
 
 ghost use Rattle.std.specs.Prelude.{◌≡◌, length};
-ghost use Rattle.esdk_gen.specs.Bytes.{byte_of, gen_bytes, next_state, state_after};
+ghost use Rattle.esdk_gen.specs.Bytes.{top_byte, gen_bytes, next_state, state_after};
 
 /// What a state is multiplied by.
 const MULTIPLIER: u64 = 6_364_136_223_846_793_005;
@@ -38,7 +38,7 @@ impl Generator {
     #[tactic(auto, using(crate::proofs::Sequence::stepped))]
     fn next(&mut self) -> u8
         ensures state { self.new.state ≡ next_state self.old.state }
-        ensures byte { result ≡ byte_of (next_state self.old.state) }
+        ensures byte { result ≡ top_byte (next_state self.old.state) }
     {
         self.state = self.state.wrapping_mul(MULTIPLIER).wrapping_add(INCREMENT);
         (self.state >> 56) as u8

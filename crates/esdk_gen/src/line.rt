@@ -4,7 +4,7 @@ ghost use Rattle.std.specs.Prelude.{◌≡◌, ◌≤◌, ◌++◌, decimal, str
 ghost use Rattle.body_format.specs.Written.{frame_count};
 ghost use Rattle.hex.specs.Hex.{encode_lower};
 ghost use Rattle.sha2.specs.Sha512.{sha512};
-ghost use Rattle.esdk_gen.specs.Generator.{line_of};
+ghost use Rattle.esdk_gen.specs.Generator.{generator_line};
 
 use crate::setting::FRAME_LENGTH;
 use esdk_fields::Blob;
@@ -15,7 +15,7 @@ use std::alloc::{AllocError, Global};
 /// of it.
 ///
 /// Fails only where memory runs out.
-#[tactic(auto, unfolding(crate::specs::Generator::line_of))]
+#[tactic(auto, unfolding(crate::specs::Generator::generator_line))]
 pub(crate) fn line(
     alloc: Global,
     size: u64,
@@ -23,7 +23,7 @@ pub(crate) fn line(
     opened: u64,
 ) -> Result<Blob, AllocError>
     requires { size ≤ 67108864 }
-    ensures { IfOk result (λ text. text ≡ line_of size message.now opened) }
+    ensures { IfOk result (λ text. text ≡ generator_line size message.now opened) }
 {
     let digest = digest(alloc, message)?;
     let mut text = Blob::new(alloc);

@@ -3,7 +3,7 @@
 ghost use Rattle.std.specs.Prelude.{◌≡◌, ◌++◌, ℕ, List, [], length, IfOk, OnOk};
 ghost use Rattle.esdk_base.specs.declared.receiver.FeedError.TheVariants.{Machine};
 ghost use Rattle.desk_core.specs.declared.errors.DeskError.TheVariants.{Memory};
-ghost use Rattle.esdk_gen.specs.Opening.{IsOpening, IsWhole};
+ghost use Rattle.esdk_gen.specs.Opening.{GeneratorIsOpening, IsWholeUnder};
 ghost use Rattle.esdk_gen.specs.Sealing.{IsIdle};
 
 use crate::receivers::{Counted, Overflow};
@@ -19,9 +19,9 @@ use std::alloc::{AllocError, Global};
 /// Fails only where memory runs out.
 pub(crate) fn open(alloc: Global, desk: &mut KeyDesk, message: &[u8]) -> Result<u64, AllocError>
     requires { (key : List ℕ) × (text : List ℕ)
-        × IsIdle desk.old key 1 × IsWhole key message.now text }
+        × IsIdle desk.old key 1 × IsWholeUnder key message.now text }
     ensures { (key : List ℕ) (text : List ℕ)
-        → IsIdle desk.old key 1 → IsWhole key message.now text
+        → IsIdle desk.old key 1 → IsWholeUnder key message.now text
         → IfOk result (λ count. count ≡ length text) }
 {
     let id = begin(alloc, desk)?;
@@ -36,8 +36,8 @@ pub(crate) fn open(alloc: Global, desk: &mut KeyDesk, message: &[u8]) -> Result<
 fn begin(alloc: Global, desk: &mut KeyDesk) -> Result<u64, AllocError>
     requires { (key : List ℕ) × IsIdle desk.old key 1 }
     ensures { (key : List ℕ) (message : List ℕ) (text : List ℕ)
-        → IsIdle desk.old key 1 → IsWhole key message text
-        → IfOk result (λ id. IsOpening desk.new key id message text message 0) }
+        → IsIdle desk.old key 1 → IsWholeUnder key message text
+        → IfOk result (λ id. GeneratorIsOpening desk.new key id message text message 0) }
 {
     match desk.open_open(alloc, Settings::none(), Context::new(alloc)) {
         Ok(id) => Ok(id),
@@ -53,10 +53,10 @@ fn feed_message(
     message: &[u8],
 ) -> Result<u64, AllocError>
     requires { (key : List ℕ) × (text : List ℕ)
-        × IsOpening desk.old key id message.now text message.now 0 }
+        × GeneratorIsOpening desk.old key id message.now text message.now 0 }
     ensures { (key : List ℕ) (text : List ℕ)
-        → IsOpening desk.old key id message.now text message.now 0
-        → IfOk result (λ count. IsOpening desk.new key id message.now text [] count) }
+        → GeneratorIsOpening desk.old key id message.now text message.now 0
+        → IfOk result (λ count. GeneratorIsOpening desk.new key id message.now text [] count) }
 {
     let mut opened = Counted::new();
     let mut left = message;
@@ -77,10 +77,10 @@ fn feed_piece(
     opened: &mut Counted,
 ) -> Result<(), AllocError>
     requires { (key : List ℕ) × (message : List ℕ) × (text : List ℕ) × (more : List ℕ)
-        × IsOpening desk.old key id message text (piece.now ++ more) opened.old }
+        × GeneratorIsOpening desk.old key id message text (piece.now ++ more) opened.old }
     ensures { (key : List ℕ) (message : List ℕ) (text : List ℕ) (more : List ℕ)
-        → IsOpening desk.old key id message text (piece.now ++ more) opened.old
-        → OnOk result (IsOpening desk.new key id message text more opened.new) }
+        → GeneratorIsOpening desk.old key id message text (piece.now ++ more) opened.old
+        → OnOk result (GeneratorIsOpening desk.new key id message text more opened.new) }
 {
     match desk.feed_into(alloc, id, 0, piece, opened) {
         Ok(()) => Ok(()),

@@ -42,8 +42,9 @@ impl Gathered {
 /// Only memory can be wanting.
 impl Receiver for Gathered {
     ghost use Rattle.std.specs.Prelude.{⊤};
-    ghost use Rattle.esdk_gen.specs.Receivers.{Gathers};
-    ghost use Rattle.esdk_gen.specs.ReceiverLaws.{gathers_more, gathers_none};
+    ghost use Rattle.esdk_base.specs.Receiver.{Gathers};
+    ghost use Rattle.esdk_base.specs.ReceiverLaws.{gathers_more};
+    ghost use Rattle.esdk_base.specs.ReceiverLaws.{gathers_none};
 
     type Error = AllocError;
 

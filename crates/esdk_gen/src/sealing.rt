@@ -7,7 +7,8 @@ ghost use Rattle.stream_seal.specs.Session.{SealingValue};
 ghost use Rattle.stream_seal.specs.Start.{message_of};
 ghost use Rattle.esdk_gen.specs.Bytes.{gen_bytes};
 ghost use Rattle.esdk_gen.specs.Generator.{message_with};
-ghost use Rattle.esdk_gen.specs.Sealing.{IsIdle, IsNewSession, IsSealing, SealsText, gen_session};
+ghost use Rattle.esdk_gen.specs.Sealing.{IsIdle, IsNewSession, GeneratorIsSealing, SealsText};
+ghost use Rattle.esdk_gen.specs.Sealing.{gen_session};
 
 use crate::bytes::Generator;
 use crate::receivers::Gathered;
@@ -62,7 +63,7 @@ fn header(alloc: Global, desk: &KeyDesk, id: u64) -> Result<Gathered, AllocError
     requires { (key : List ℕ) × (random : List ℕ) × IsNewSession desk.now key random id }
     ensures { (key : List ℕ) (random : List ℕ) → IsNewSession desk.now key random id
         → IfOk result (λ message.
-        IsSealing desk.now key id (gen_session key random) message) }
+        GeneratorIsSealing desk.now key id (gen_session key random) message) }
 {
     let mut message = Gathered::new(alloc);
     match desk.header(id) {
@@ -82,10 +83,10 @@ fn feed_text(
     message: &mut Gathered,
 ) -> Result<(), AllocError>
     requires live { (key : List ℕ) × (s : SealingValue)
-        × IsSealing desk.old key id s message.old × (s.taken ≡ []) }
+        × GeneratorIsSealing desk.old key id s message.old × (s.taken ≡ []) }
     requires few { size ≤ 67108864 }
     ensures { (key : List ℕ) (s : SealingValue)
-        → IsSealing desk.old key id s message.old → s.taken ≡ []
+        → GeneratorIsSealing desk.old key id s message.old → s.taken ≡ []
         → OnOk result (SealsText desk.new key id s
         (gen_bytes text.old.state size) message.new) }
 {
@@ -108,10 +109,11 @@ fn feed_piece(
     piece: &[u8],
     message: &mut Gathered,
 ) -> Result<(), AllocError>
-    requires { (key : List ℕ) × (s : SealingValue) × IsSealing desk.old key id s message.old
+    requires { (key : List ℕ) × (s : SealingValue)
+        × GeneratorIsSealing desk.old key id s message.old
         × (length s.taken + length piece.now ≤ 67108864) }
     ensures { (key : List ℕ) (s : SealingValue)
-        → IsSealing desk.old key id s message.old
+        → GeneratorIsSealing desk.old key id s message.old
         → length s.taken + length piece.now ≤ 67108864
         → OnOk result (SealsText desk.new key id s (s.taken ++ piece.now) message.new) }
 {
@@ -124,12 +126,12 @@ fn feed_piece(
 /// Ends the session, and puts the final frame behind the message.
 fn end(desk: &mut KeyDesk, id: u64, message: &mut Gathered) -> Result<(), AllocError>
     requires { (key : List ℕ) × (s : SealingValue)
-        × IsSealing desk.old key id s message.old }
+        × GeneratorIsSealing desk.old key id s message.old }
     ensures message { (key : List ℕ) (s : SealingValue)
-        → IsSealing desk.old key id s message.old
+        → GeneratorIsSealing desk.old key id s message.old
         → OnOk result (message.new ≡ message_of s.materials s.size s.id s.taken) }
     ensures idle { (key : List ℕ) (s : SealingValue)
-        → IsSealing desk.old key id s message.old → IsIdle desk.new key id }
+        → GeneratorIsSealing desk.old key id s message.old → IsIdle desk.new key id }
 {
     match desk.end_into(id, message) {
         Ok(()) => Ok(()),

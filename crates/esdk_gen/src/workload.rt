@@ -2,7 +2,7 @@
 
 ghost use Rattle.std.specs.Prelude.{◌≡◌, ◌≤◌, ℕ, List, IfOk};
 ghost use Rattle.esdk_gen.specs.Bytes.{gen_bytes};
-ghost use Rattle.esdk_gen.specs.Generator.{gen_line, line_of, message_with};
+ghost use Rattle.esdk_gen.specs.Generator.{gen_line, generator_line, message_with};
 ghost use Rattle.esdk_gen.specs.Sealing.{IsIdle};
 
 use crate::bytes::Generator;
@@ -47,7 +47,7 @@ fn seal_and_open(
     requires few { size ≤ 67108864 }
     ensures { (key : List ℕ) → IsIdle desk.old key 0
         → IfOk result (λ line. line
-        ≡ line_of size (message_with key random.now (gen_bytes text.old.state size)) size) }
+        ≡ generator_line size (message_with key random.now (gen_bytes text.old.state size)) size) }
 {
     let message = seal(alloc, desk, random, text, size)?;
     let opened = open(alloc, desk, message.bytes())?;

@@ -14,27 +14,27 @@ use Rattle.header_input.specs.declared.errors.NoHeader.{NoHeader}
 use Rattle.header_input.specs.declared.errors.NoHeader.TheVariants as errors
 use Rattle.header_input.specs.Taking.{NoneCame}
 use Rattle.whole_input.specs.declared.pieces.End.TheVariants as ends
-use Rattle.esdk_list.specs.List.{IsInputCause, IsListCause, failure_as, fault_at_end, input_fault, limits_of}
+use Rattle.esdk_list.specs.List.{IsInputCause, IsListCause, failure_as, reading_fault_at_end, listing_fault, list_settings}
 
 -- a fault of the bytes taken is the input's
 fault_told : (uncommitted : Bool) (old new : Option (List ℕ)) (bytes : List ℕ) (fault : Fault) (at : ℕ) → Consumes old new bytes
-    → header (limits_of uncommitted) (start bytes) ≡ Refused fault at → OnTold old (λ told. input_fault uncommitted told ≡ Some fault)
+    → header (list_settings uncommitted) (start bytes) ≡ Refused fault at → OnTold old (λ told. listing_fault uncommitted told ≡ Some fault)
 fault_told uncommitted None new bytes fault at consumed refused = tt
 fault_told uncommitted (Some told) None bytes fault at consumed refused = absurd consumed
 fault_told uncommitted (Some told) (Some rest) bytes fault at consumed refused =
-    let limits = limits_of uncommitted in
-    ap (λ (b : List ℕ). input_fault uncommitted b) consumed ∙ ap fault_at_end (fault_stays (header limits) bytes rest fault at (IsSequential-header limits) refused)
+    let limits = list_settings uncommitted in
+    ap (λ (b : List ℕ). listing_fault uncommitted b) consumed ∙ ap reading_fault_at_end (fault_stays (header limits) bytes rest fault at (IsSequential-header limits) refused)
 
 -- an input that ended while bytes were wanted is cut short
 truncated_told : (uncommitted : Bool) (old new : Option (List ℕ)) (bytes : List ℕ) → Consumes old new bytes → IsAtEnd new
-    → header (limits_of uncommitted) (start bytes) ≡ Wanting → OnTold old (λ told. input_fault uncommitted told ≡ Some Truncated)
+    → header (list_settings uncommitted) (start bytes) ≡ Wanting → OnTold old (λ told. listing_fault uncommitted told ≡ Some Truncated)
 truncated_told uncommitted None new bytes consumed end wanting = tt
 truncated_told uncommitted (Some told) None bytes consumed end wanting = absurd consumed
 truncated_told uncommitted (Some told) (Some rest) bytes consumed end wanting =
-    ap (λ (b : List ℕ). input_fault uncommitted b) (consumed ∙ ap (λ (r : List ℕ). bytes ++ r) end ∙ append-nil bytes) ∙ ap fault_at_end wanting
+    ap (λ (b : List ℕ). listing_fault uncommitted b) (consumed ∙ ap (λ (r : List ℕ). bytes ++ r) end ∙ append-nil bytes) ∙ ap reading_fault_at_end wanting
 
 -- why the input is refused
-input_cause : (uncommitted : Bool) (old new : SourceState) (error : NoHeader) → NoneCame (limits_of uncommitted) old new error
+input_cause : (uncommitted : Bool) (old new : SourceState) (error : NoHeader) → NoneCame (list_settings uncommitted) old new error
     → IsInputCause uncommitted (failure_as error) old new
 input_cause uncommitted old new (errors.Fault fault) came = record {
   came = inl came;
@@ -49,7 +49,7 @@ input_cause uncommitted old new (errors.End ends.TooLong) came = came
 input_cause uncommitted old new errors.Memory came = inl came
 
 -- and why `list` ends
-pub list_cause : (uncommitted : Bool) (old new : SourceState) (before now : SinkState) (error : NoHeader) → NoneCame (limits_of uncommitted) old new error
+pub list_cause : (uncommitted : Bool) (old new : SourceState) (before now : SinkState) (error : NoHeader) → NoneCame (list_settings uncommitted) old new error
     → IsListCause uncommitted (failure_as error) old new before now
 list_cause uncommitted old new before now (errors.Fault fault) came = input_cause uncommitted old new (errors.Fault fault) came
 list_cause uncommitted old new before now (errors.End ends.Seen) came = input_cause uncommitted old new (errors.End ends.Seen) came

@@ -17,31 +17,33 @@ use Rattle.esdk_list.specs.Listing.{list_of}
 use Rattle.esdk_base.specs.Streams.{OnTold, SinkState, SourceState}
 use Rattle.header_input.specs.declared.errors.NoHeader.{NoHeader}
 use Rattle.header_input.specs.declared.errors.NoHeader.TheVariants as errors
-use Rattle.header_input.specs.Taking.{EndCame, FaultCame, IsTooLong, LacksMemory, ReadFailed}
+use Rattle.header_input.specs.Taking.{EndCame, FaultCame, HeaderInputIsTooLong}
+use Rattle.header_input.specs.Taking.{HeaderInputLacksMemory, ReadFailed}
 use Rattle.whole_input.specs.declared.pieces.End.TheVariants as ends
 use Rattle.whole_input.specs.Taken.{Came}
 
 -- `list` takes each header that the format allows; one of a message without a commitment only where
 -- the caller allows these
-abbrev pub limits_of : Bool → Settings
-limits_of uncommitted = record { max_keys = None; max_unit = None; uncommitted = uncommitted }
+abbrev pub list_settings : Bool → Settings
+list_settings uncommitted = record { max_keys = None; max_unit = None; uncommitted = uncommitted }
 
 -- the fault of what was read: the header's, or that the input ends before the header is whole
-abbrev pub fault_at_end : {A : Type 0} → Reading A → Option Fault
-fault_at_end (Read x next) = None
-fault_at_end (Refused fault at) = Some fault
-fault_at_end Wanting = Some Truncated
+abbrev pub reading_fault_at_end : {A : Type 0} → Reading A → Option Fault
+reading_fault_at_end (Read x next) = None
+reading_fault_at_end (Refused fault at) = Some fault
+reading_fault_at_end Wanting = Some Truncated
 
 -- the fault for which `list` refuses an input of these bytes
-abbrev pub input_fault : Bool → List ℕ → Option Fault
-input_fault uncommitted bytes = fault_at_end (header (limits_of uncommitted) (start bytes))
+abbrev pub listing_fault : Bool → List ℕ → Option Fault
+listing_fault uncommitted bytes =
+    reading_fault_at_end (header (list_settings uncommitted) (start bytes))
 
 -- ---- the input has a header
 
 -- The bytes begin with this header and its authentication.
 abbrev pub BeginsWithHeader : Bool → HeaderValue → List ℕ → Type 0
 BeginsWithHeader uncommitted h bytes =
-    (end : Place) × BeginsWith (limits_of uncommitted) bytes h end
+    (end : Place) × BeginsWith (list_settings uncommitted) bytes h end
 
 -- The bytes that were taken begin with this header and its authentication, fewer than a piece of
 -- 65,536 of them stand behind it, and no read failed.
@@ -49,7 +51,7 @@ pub record HeaderCame (uncommitted : Bool) (h : HeaderValue) (old new : SourceSt
   pub bytes : List ℕ
   pub end : Place
   pub came : Came old new bytes
-  pub begins : BeginsWith (limits_of uncommitted) bytes h end
+  pub begins : BeginsWith (list_settings uncommitted) bytes h end
   pub few : length bytes < end.at + 65536
   pub faults : new.faults ≡ old.faults
 
@@ -82,24 +84,25 @@ failure_as errors.Memory = failures.Memory
 
 -- The input has this fault: a field of the bytes that were taken has it, or the input ends too
 -- soon.
-pub record HasFault (uncommitted : Bool) (fault : Fault) (old new : SourceState) : Type 0 where
-  pub came : FaultCame (limits_of uncommitted) fault old new
-      ⊎ ((fault ≡ Truncated) × EndCame (limits_of uncommitted) old new)
-  pub told : OnTold old.left (λ bytes. input_fault uncommitted bytes ≡ Some fault)
+pub record ListFindsFault (uncommitted : Bool) (fault : Fault) (old new : SourceState)
+    : Type 0 where
+  pub came : FaultCame (list_settings uncommitted) fault old new
+      ⊎ ((fault ≡ Truncated) × EndCame (list_settings uncommitted) old new)
+  pub told : OnTold old.left (λ bytes. listing_fault uncommitted bytes ≡ Some fault)
 
 -- memory ran out while the header wasn't whole, or once it was
-abbrev pub HasNoMemory : Bool → SourceState → SourceState → Type 0
-HasNoMemory uncommitted old new = LacksMemory (limits_of uncommitted) old new
+abbrev pub ListLacksMemory : Bool → SourceState → SourceState → Type 0
+ListLacksMemory uncommitted old new = HeaderInputLacksMemory (list_settings uncommitted) old new
     ⊎ ((h : HeaderValue) × HeaderCame uncommitted h old new)
 
 -- why the input is refused so
 abbrev pub IsInputCause : Bool → Failure → SourceState → SourceState → Type 0
-IsInputCause uncommitted (failures.Fault fault) old new = HasFault uncommitted fault old new
+IsInputCause uncommitted (failures.Fault fault) old new = ListFindsFault uncommitted fault old new
 IsInputCause uncommitted (failures.Outside outsides.SourceFault) old new =
-    ReadFailed (limits_of uncommitted) old new
+    ReadFailed (list_settings uncommitted) old new
 IsInputCause uncommitted (failures.Outside outsides.InputTooLong) old new =
-    IsTooLong (limits_of uncommitted) old new
-IsInputCause uncommitted failures.Memory old new = HasNoMemory uncommitted old new
+    HeaderInputIsTooLong (list_settings uncommitted) old new
+IsInputCause uncommitted failures.Memory old new = ListLacksMemory uncommitted old new
 IsInputCause uncommitted failure old new = ⊥
 
 -- why `list` ends so, by what the input and the output did

@@ -47,16 +47,16 @@ opening_lines h =
 
 -- the line of what only one of the two formats has: the commitment to the data key, or the header's
 -- initialization vector
-abbrev pub key_line : Suite → HeaderValue → List ℕ
-key_line Committing h = line (codes "commitment") (encode_lower h.commitment)
-key_line Uncommitted h = line (codes "iv") (encode_lower h.iv)
+abbrev pub format_line : Suite → HeaderValue → List ℕ
+format_line Committing h = line (codes "commitment") (encode_lower h.commitment)
+format_line Uncommitted h = line (codes "iv") (encode_lower h.iv)
 
 -- the lines behind them
 unfoldable pub closing_lines : HeaderValue → List ℕ
 closing_lines h =
     line (codes "content") (content_word h.content)
     ++ line (codes "frame-length") (decimal (frame_length h.content))
-    ++ key_line h.suite h
+    ++ format_line h.suite h
     ++ line (codes "tag") (encode_lower h.tag)
 
 -- the whole listing

@@ -1,6 +1,6 @@
 //! The command `list`.
 ghost use Rattle.std.specs.Prelude.{◌≡◌, ◌+◌, ◌≤◌, ◌^◌, IfErr, OnOk};
-ghost use Rattle.esdk_list.specs.List.{IsListCause, LeavesOutput, Lists, failure_as, limits_of};
+ghost use Rattle.esdk_list.specs.List.{IsListCause, LeavesOutput, Lists, failure_as, list_settings};
 
 use crate::listing::list_text;
 use esdk_base::{Sink, Source};
@@ -55,7 +55,7 @@ pub fn list<S: Source, O: Sink>(
 
 /// The limits within which a header is listed: a message without a commitment may be allowed.
 fn limits_of(uncommitted: bool) -> Settings
-    ensures { result ≡ limits_of uncommitted }
+    ensures { result ≡ list_settings uncommitted }
 {
     Settings {
         uncommitted,

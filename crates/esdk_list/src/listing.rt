@@ -1,12 +1,14 @@
 //! The listing of a header.
 //!
 //! Each group of lines is made as a text of its own, so that it is one list of appends.
-ghost use Rattle.std.specs.Prelude.{◌≡◌, ◌+◌, ◌++◌, IfOk, OnOk, codes, decimal, length, string_bytes};
+ghost use Rattle.std.specs.Prelude.{◌≡◌, ◌+◌, ◌++◌, IfOk, OnOk, codes, decimal, length};
+ghost use Rattle.std.specs.Prelude.{string_bytes};
 ghost use Rattle.std.specs.Int.{w16};
 ghost use Rattle.hex.specs.Hex.{encode_lower};
 ghost use Rattle.esdk_fields.specs.Numbers.{to_big_endian};
 ghost use Rattle.header_codec.specs.Header.{frame_length};
-ghost use Rattle.esdk_list.specs.Listing.{closing_lines, content_word, entry_line, entry_lines, entry_text, key_line, line, list_of, opening_lines};
+ghost use Rattle.esdk_list.specs.Listing.{closing_lines, content_word, entry_line, entry_lines};
+ghost use Rattle.esdk_list.specs.Listing.{entry_text, format_line, line, list_of, opening_lines};
 
 use esdk_fields::{Blob, Content};
 use esdk_report::context_text;
@@ -64,7 +66,7 @@ fn closing_text(alloc: Global, header: &Header) -> Result<Blob, AllocError>
 /// The line of what only one of the two formats has: the commitment to the data key, or the
 /// header's initialization vector.
 fn push_key_line(alloc: Global, out: &mut Blob, header: &Header) -> Result<(), AllocError>
-    ensures { OnOk result (out.new ≡ out.old ++ key_line header.now.suite header.now) }
+    ensures { OnOk result (out.new ≡ out.old ++ format_line header.now.suite header.now) }
 {
     match header.algorithm() {
         Suite::Committing => {

@@ -13,7 +13,7 @@ use Rattle.std.proofs.lemmas.List.Folds.{find-set, find_past, find-append, find_
 use Rattle.std.proofs.lemmas.List.Sums.{passes_at_first}
 use Rattle.std.proofs.lemmas.Option.{slice_get-get_or, slice_get_past}
 use Rattle.esdk_memory.specs.MemFile.{MemFileState}
-use Rattle.esdk_memory.specs.MemFiles.{ByName, is_named, place_of, with_value, values_of}
+use Rattle.esdk_memory.specs.MemFiles.{ByName, is_named, place_of, with_value, map_of_rows}
 
 -- the first row of a name has that name
 pub named_there : (name : List ℕ) (rows : List MemFileState) (i : ℕ) (d : MemFileState) → i ≡ place_of name rows → i < length rows → (get_or rows i d).name ≡ name
@@ -60,40 +60,40 @@ module _ {V : Type 0} where
   picked f false row rest = refl
 
   -- the map of the rows gives what the first row of a name has
-  get-values_of : (f : MemFileState → Option V) (rows : List MemFileState) (q : List ℕ) → get (values_of f rows) q ≡ option_and_then f (find (is_named q) rows)
-  unfolding values_of
+  get-values_of : (f : MemFileState → Option V) (rows : List MemFileState) (q : List ℕ) → get (map_of_rows f rows) q ≡ option_and_then f (find (is_named q) rows)
+  unfolding map_of_rows
   get-values_of f [] q = get-empty (slice_cmp nat_cmp) q
   get-values_of f (row ∷ rows) q =
-      get-with_value (values_of f rows) row.name (f row) q
+      get-with_value (map_of_rows f rows) row.name (f row) q
       ∙ ap (cond (bytes_eq q row.name) (f row)) (get-values_of f rows q)
       ∙ picked f (bytes_eq q row.name) row (find (is_named q) rows)
 
   -- rows of which one name's first row is this, and the others stay
-  one_value : (f : MemFileState → Option V) (rows others : List MemFileState) (name : List ℕ) (row : MemFileState) → ((q : List ℕ) → find (is_named q) rows ≡ cond (bytes_eq q name) (Some row) (find (is_named q) others)) → values_of f rows ≡ with_value (values_of f others) name (f row)
+  one_value : (f : MemFileState → Option V) (rows others : List MemFileState) (name : List ℕ) (row : MemFileState) → ((q : List ℕ) → find (is_named q) rows ≡ cond (bytes_eq q name) (Some row) (find (is_named q) others)) → map_of_rows f rows ≡ with_value (map_of_rows f others) name (f row)
   one_value f rows others name row finds =
       same_values _ _ (λ q.
       get-values_of f rows q
       ∙ ap (option_and_then f) (finds q)
       ∙ sym (picked f (bytes_eq q name) row (find (is_named q) others))
       ∙ ap (cond (bytes_eq q name) (f row)) (sym (get-values_of f others q))
-      ∙ sym (get-with_value (values_of f others) name (f row) q))
+      ∙ sym (get-with_value (map_of_rows f others) name (f row) q))
 
   -- a row that is changed, of a name that it keeps
-  pub values_of-set : (f : MemFileState → Option V) (rows : List MemFileState) (name : List ℕ) (i : ℕ) (row : MemFileState) → i ≡ place_of name rows → i < length rows → row.name ≡ name → values_of f (set rows i row) ≡ with_value (values_of f rows) name (f row)
+  pub values_of-set : (f : MemFileState → Option V) (rows : List MemFileState) (name : List ℕ) (i : ℕ) (row : MemFileState) → i ≡ place_of name rows → i < length rows → row.name ≡ name → map_of_rows f (set rows i row) ≡ with_value (map_of_rows f rows) name (f row)
   values_of-set f rows name i row first inside kept = one_value f (set rows i row) rows name row (λ q. find_changed q name rows i row first inside kept)
 
   -- a row that is pushed, of a name that is new
-  pub values_of_push : (f : MemFileState → Option V) (rows : List MemFileState) (row : MemFileState) → place_of row.name rows ≡ length rows → values_of f (rows ++ row ∷ []) ≡ with_value (values_of f rows) row.name (f row)
+  pub values_of_push : (f : MemFileState → Option V) (rows : List MemFileState) (row : MemFileState) → place_of row.name rows ≡ length rows → map_of_rows f (rows ++ row ∷ []) ≡ with_value (map_of_rows f rows) row.name (f row)
   values_of_push f rows row new = one_value f (rows ++ row ∷ []) rows row.name row (λ q. find_pushed q rows row new)
 
   -- what the map gives at the first row of a name
-  pub get-values_of_at : (f : MemFileState → Option V) (rows : List MemFileState) (name : List ℕ) (i : ℕ) (d : MemFileState) → i ≡ place_of name rows → i < length rows → get (values_of f rows) name ≡ f (get_or rows i d)
+  pub get-values_of_at : (f : MemFileState → Option V) (rows : List MemFileState) (name : List ℕ) (i : ℕ) (d : MemFileState) → i ≡ place_of name rows → i < length rows → get (map_of_rows f rows) name ≡ f (get_or rows i d)
   get-values_of_at f rows name i d first inside =
       get-values_of f rows name
       ∙ ap (option_and_then f) (find_at (is_named name) rows ∙ ap (slice_get rows) (sym first) ∙ slice_get-get_or rows i d inside)
 
   -- and at a name of no row
-  pub get-values_of_none : (f : MemFileState → Option V) (rows : List MemFileState) (name : List ℕ) → place_of name rows ≡ length rows → get (values_of f rows) name ≡ None
+  pub get-values_of_none : (f : MemFileState → Option V) (rows : List MemFileState) (name : List ℕ) → place_of name rows ≡ length rows → get (map_of_rows f rows) name ≡ None
   get-values_of_none f rows name absent = get-values_of f rows name ∙ ap (option_and_then f) (find_none name rows absent)
 
   kept_by : (m : ByName V) (k : List ℕ) (v : Option V) (q : List ℕ) (b : Bool) → bytes_eq q k ≡ b → get m k ≡ v → cond b v (get m q) ≡ get m q

@@ -19,8 +19,8 @@ abbrev pub fails_next : Plan → Bool
 fails_next plan = list_any (λ number. number == next_call plan) plan.failing
 
 -- the plan after a call that failed or didn't
-abbrev pub after_call : Bool → Plan → Plan
-after_call failed plan = record {
+abbrev pub plan_after_call : Bool → Plan → Plan
+plan_after_call failed plan = record {
   failing = plan.failing;
   calls = next_call plan;
   faults = if failed then counted plan.faults 1 else plan.faults;

@@ -1,6 +1,6 @@
 -- An entropy over a list of bytes.
 use Rattle.std.specs.Prelude.{ℕ, List, Bool, ◌||◌, length, drop, nat_lt, if◌then◌else◌}
-use Rattle.esdk_memory.specs.CallPlan.{Plan, fails_next, after_call}
+use Rattle.esdk_memory.specs.CallPlan.{Plan, fails_next, plan_after_call}
 
 -- The bytes to come, and which fills are to fail; the bytes that were drawn so far.
 pub record ListEntropyState : Type 0 where
@@ -16,5 +16,5 @@ fill_fails entropy count = fails_next entropy.plan || nat_lt (length entropy.to_
 abbrev pub after_fill : ListEntropyState → ℕ → ListEntropyState
 after_fill entropy count = record entropy {
   to_come = if fill_fails entropy count then entropy.to_come else drop count entropy.to_come;
-  plan = after_call (fill_fails entropy count) entropy.plan;
+  plan = plan_after_call (fill_fails entropy count) entropy.plan;
 }

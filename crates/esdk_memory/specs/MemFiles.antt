@@ -1,6 +1,7 @@
 -- The files of a memory shelf, and their rows as maps from their names. The first row of a name
 -- counts.
-use Rattle.std.specs.Prelude.{◌≡◌, ◌<◌, ◌≤◌, ℕ, List, [], ◌∷◌, Bool, length, max, unwrap_or, bytes_eq, nat_lt, ◌+◌, slice_index_or as get_or}
+use Rattle.std.specs.Prelude.{◌≡◌, ◌<◌, ◌≤◌, ℕ, List, [], ◌∷◌, Bool, length, max, unwrap_or}
+use Rattle.std.specs.Prelude.{bytes_eq, nat_lt, ◌+◌, slice_index_or as get_or}
 use Rattle.std.specs.declared.option.Option.{Option}
 use Rattle.std.specs.declared.option.Option.TheVariants.{None, Some}
 use Rattle.std.specs.Cmp.Lexicographic.{slice_cmp}
@@ -59,17 +60,17 @@ with_value values name None = remove values name
 with_value values name (Some value) = insert values name value
 
 -- the map of what f reads in the rows
-unfoldable pub values_of : {V : Type 0} → (MemFileState → Option V) → List MemFileState → ByName V
-values_of f [] = empty
-values_of f (row ∷ rows) = with_value (values_of f rows) row.name (f row)
+unfoldable pub map_of_rows : {V : Type 0} → (MemFileState → Option V) → List MemFileState → ByName V
+map_of_rows f [] = empty
+map_of_rows f (row ∷ rows) = with_value (map_of_rows f rows) row.name (f row)
 
 -- the files of the rows
 abbrev pub files_of : List MemFileState → Files
-files_of rows = values_of (λ row. row.held) rows
+files_of rows = map_of_rows (λ row. row.held) rows
 
 -- the rooms of the rows
 abbrev pub rooms_of : List MemFileState → ByName ℕ
-rooms_of rows = values_of (λ row. Some row.room) rows
+rooms_of rows = map_of_rows (λ row. Some row.room) rows
 
 -- Room for so many bytes was taken for the name, whose row stands there.
 pub record RoomTaken (old new : List MemFileState) (name : List ℕ) (size i : ℕ) : Type 0 where

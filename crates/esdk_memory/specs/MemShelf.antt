@@ -1,9 +1,10 @@
 -- A shelf in memory.
-use Rattle.std.specs.Prelude.{ℕ, List, [], Bool, ◌&&◌, ◌||◌, not, ◌-◌, length, min, is_none, unwrap_or, if◌then◌else◌}
+use Rattle.std.specs.Prelude.{ℕ, List, [], Bool, ◌&&◌, ◌||◌, not, ◌-◌, length, min, is_none}
+use Rattle.std.specs.Prelude.{unwrap_or, if◌then◌else◌}
 use Rattle.std.specs.FinMap.{get, insert}
 use Rattle.esdk_fields.specs.Counts.{counted}
 use Rattle.esdk_seen.specs.Calls.{ShelfCall}
-use Rattle.esdk_memory.specs.CallPlan.{Plan, fails_next, after_call}
+use Rattle.esdk_memory.specs.CallPlan.{Plan, fails_next, plan_after_call}
 use Rattle.esdk_memory.specs.MemFiles.{ByName, is_too_long, with_room}
 use Rattle.esdk_base.specs.Shelf.{Files, appended, created}
 
@@ -28,8 +29,8 @@ placed shelf name bytes = record shelf {
 }
 
 -- how many bytes a read that doesn't fail gives from the offset on into so much room
-abbrev pub read_count : MemShelfState → List ℕ → ℕ → ℕ → ℕ
-read_count shelf name at count = min count (length (unwrap_or (get shelf.files name) []) - at)
+abbrev pub shelf_read_count : MemShelfState → List ℕ → ℕ → ℕ → ℕ
+shelf_read_count shelf name at count = min count (length (unwrap_or (get shelf.files name) []) - at)
 
 -- the next read of the name fails: it is to, or the name isn't there
 abbrev pub read_fails : MemShelfState → List ℕ → Bool
@@ -40,11 +41,11 @@ abbrev pub read_faults : MemShelfState → List ℕ → Bool
 read_faults shelf name = not (is_absent shelf name) && fails_next shelf.plan
 
 -- the shelf after a read from the offset on into so much room, but for its calls
-abbrev pub after_read : MemShelfState → List ℕ → ℕ → ℕ → MemShelfState
-after_read shelf name at count = record shelf {
+abbrev pub shelf_after_read : MemShelfState → List ℕ → ℕ → ℕ → MemShelfState
+shelf_after_read shelf name at count = record shelf {
   given = if read_fails shelf name then shelf.given
-      else counted shelf.given (read_count shelf name at count);
-  plan = after_call (read_faults shelf name) shelf.plan;
+      else counted shelf.given (shelf_read_count shelf name at count);
+  plan = plan_after_call (read_faults shelf name) shelf.plan;
 }
 
 -- the next create fails: it is to, or no room was taken for the name
@@ -55,7 +56,7 @@ create_fails shelf name = fails_next shelf.plan || is_none (get shelf.rooms name
 abbrev pub after_create : MemShelfState → List ℕ → MemShelfState
 after_create shelf name = record shelf {
   files = if create_fails shelf name then shelf.files else created shelf.files name;
-  plan = after_call (create_fails shelf name) shelf.plan;
+  plan = plan_after_call (create_fails shelf name) shelf.plan;
 }
 
 -- the next append counts as a fault: it is to fail, or there is too little room, and the name is
@@ -72,5 +73,5 @@ append_faults shelf name bytes =
 abbrev pub after_append : MemShelfState → List ℕ → List ℕ → MemShelfState
 after_append shelf name bytes = record shelf {
   files = if append_faults shelf name bytes then shelf.files else appended shelf.files name bytes;
-  plan = after_call (append_faults shelf name bytes) shelf.plan;
+  plan = plan_after_call (append_faults shelf name bytes) shelf.plan;
 }

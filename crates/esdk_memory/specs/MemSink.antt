@@ -1,6 +1,6 @@
 -- A sink in memory.
 use Rattle.std.specs.Prelude.{ℕ, ◌+◌, List, ◌++◌, Bool, ◌||◌, length, nat_lt, if◌then◌else◌}
-use Rattle.esdk_memory.specs.CallPlan.{Plan, fails_next, after_call}
+use Rattle.esdk_memory.specs.CallPlan.{Plan, fails_next, plan_after_call}
 
 -- The bytes written, how many may be, and which puts are to fail.
 pub record MemSinkState : Type 0 where
@@ -17,5 +17,5 @@ abbrev pub after_put : MemSinkState → List ℕ → MemSinkState
 after_put sink bytes = record {
   written = if put_fails sink bytes then sink.written else sink.written ++ bytes;
   room = sink.room;
-  plan = after_call (put_fails sink bytes) sink.plan;
+  plan = plan_after_call (put_fails sink bytes) sink.plan;
 }

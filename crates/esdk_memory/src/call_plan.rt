@@ -1,7 +1,7 @@
 //! Which calls of a memory form are to fail.
 
 ghost use Rattle.std.specs.Prelude.{◌≡◌, ◌||◌, false, is_err};
-ghost use Rattle.esdk_memory.specs.CallPlan.{after_call, fails_next};
+ghost use Rattle.esdk_memory.specs.CallPlan.{plan_after_call, fails_next};
 ghost use Rattle.esdk_fields.specs.Counts.{HasCause};
 
 use esdk_base::Failed;
@@ -39,7 +39,7 @@ impl CallPlan {
     pub(crate) fn begin(&mut self, refused: bool) -> Result<(), Failed>
         ensures failed { is_err result ≡ (fails_next self.old || refused) }
         ensures cause { HasCause self.old.faults self.new.faults result }
-        ensures plan { self.new ≡ after_call (fails_next self.old || refused) self.old }
+        ensures plan { self.new ≡ plan_after_call (fails_next self.old || refused) self.old }
     {
         self.count();
         if self.failing.contains(&self.calls) || refused {
@@ -51,7 +51,7 @@ impl CallPlan {
 
     /// Counts a call, whether it is planned to fail or not. That alone is no fault.
     pub(crate) fn count(&mut self)
-        ensures { self.new ≡ after_call false self.old }
+        ensures { self.new ≡ plan_after_call false self.old }
     {
         self.calls = self.calls.saturating_add(1);
     }

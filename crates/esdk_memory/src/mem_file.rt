@@ -1,6 +1,7 @@
 //! A name of a memory shelf.
 
-ghost use Rattle.std.specs.Prelude.{◌≡◌, ◌≤◌, ◌+◌, ◌++◌, IfOk, None, OnErr, OnOk, Some, [], length, max, nat_lt, unwrap_or};
+ghost use Rattle.std.specs.Prelude.{◌≡◌, ◌≤◌, ◌+◌, ◌++◌, IfOk, None, OnErr, OnOk, Some, [], length};
+ghost use Rattle.std.specs.Prelude.{max, nat_lt, unwrap_or};
 ghost use Rattle.std.specs.Option.{option_map};
 
 use esdk_fields::Text;
@@ -34,7 +35,11 @@ impl Model for MemFile {
 impl MemFile {
     /// A name that isn't there, with room for so many bytes. Fails only where memory runs out.
     pub(crate) fn new(alloc: Global, name: &str, room: usize) -> Result<MemFile, AllocError>
-        ensures { IfOk result (λ file. file ≡ record { name = name.now; held = None; room = room }) }
+        ensures { IfOk result (λ file. file ≡ record {
+          name = name.now;
+          held = None;
+          room = room;
+        }) }
     {
         Ok(MemFile {
             name: Text::new(alloc, name)?,

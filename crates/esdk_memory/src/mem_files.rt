@@ -1,9 +1,11 @@
 //! The files of a memory shelf.
 
-ghost use Rattle.std.specs.Prelude.{◌≡◌, ◌≤◌, ◌<◌, ◌+◌, [], IfOk, IsSomeAnd, MatchOption, None, OnErr, OnOk, is_some, length, unwrap_or};
+ghost use Rattle.std.specs.Prelude.{◌≡◌, ◌≤◌, ◌<◌, ◌+◌, [], IfOk, IsSomeAnd, MatchOption, None};
+ghost use Rattle.std.specs.Prelude.{OnErr, OnOk, is_some, length, unwrap_or};
 ghost use Rattle.std.specs.FinMap.{empty, get, insert};
 ghost use Rattle.std.specs.Option.{option_map};
-ghost use Rattle.esdk_memory.specs.MemFiles.{IsRowOf, RoomTaken, is_too_long, place_of, room_of, with_room};
+ghost use Rattle.esdk_memory.specs.MemFiles.{IsRowOf, RoomTaken, is_too_long, place_of, room_of};
+ghost use Rattle.esdk_memory.specs.MemFiles.{with_room};
 ghost use Rattle.esdk_base.specs.Shelf.{appended};
 
 use crate::mem_file::MemFile;
@@ -18,7 +20,8 @@ pub(crate) struct MemFiles {
 
 impl Model for MemFiles {
     ghost use Rattle.std.specs.Coded.{codes};
-    ghost use Rattle.esdk_memory.specs.MemFiles.{MemFilesState, files_code, files_of, rooms_code, rooms_of};
+    ghost use Rattle.esdk_memory.specs.MemFiles.{MemFilesState, files_code, files_of, rooms_code};
+    ghost use Rattle.esdk_memory.specs.MemFiles.{rooms_of};
 
     ghost Value = { MemFilesState };
 
@@ -29,7 +32,7 @@ impl Model for MemFiles {
 
 impl MemFiles {
     /// No files, and no rooms.
-    #[tactic(auto, unfolding(crate::specs::MemFiles::values_of))]
+    #[tactic(auto, unfolding(crate::specs::MemFiles::map_of_rows))]
     pub(crate) fn new(alloc: Global) -> MemFiles
         ensures { result ≡ record { files = empty; rooms = empty } }
     {
@@ -95,7 +98,10 @@ impl MemFiles {
     pub(crate) fn append(&mut self, name: &str, bytes: &[u8])
         requires { length (unwrap_or (get self.old.files name.now) []) + length bytes.now ≤ room_of
             self.old.rooms name.now }
-        ensures { self.new ≡ record self.old { files = appended self.old.files name.now bytes.now } }
+        ensures { self.new ≡ record self.old {
+          files = appended self.old.files name.now
+              bytes.now;
+        } }
     {
         if let Some(i) = row_of(&self.rows, name) {
             self.rows[i].append(bytes);

@@ -1,15 +1,19 @@
 //! A shelf in memory.
 
-ghost use Rattle.std.specs.Prelude.{◌≡◌, ◌||◌, [], ◌∷◌, ◌++◌, IfOk, IsOk, OnErr, OnOk, Some, is_err, length};
+ghost use Rattle.std.specs.Prelude.{◌≡◌, ◌||◌, [], ◌∷◌, ◌++◌, IfOk, IsOk, OnErr, OnOk, Some};
+ghost use Rattle.std.specs.Prelude.{is_err, length};
 ghost use Rattle.std.specs.FinMap.{empty, get};
 ghost use Rattle.std.specs.Io.{ReadsAtMost};
 ghost use Rattle.std.specs.Option.{option_map};
 ghost use Rattle.esdk_fields.specs.Counts.{CountsGiven, HasCause};
-ghost use Rattle.esdk_memory.specs.MemShelf.{after_append, after_create, after_read, append_faults, create_fails, is_absent, placed, read_count, read_fails};
+ghost use Rattle.esdk_memory.specs.MemShelf.{after_append, after_create, shelf_after_read};
+ghost use Rattle.esdk_memory.specs.MemShelf.{append_faults, create_fails, is_absent, placed};
+ghost use Rattle.esdk_memory.specs.MemShelf.{shelf_read_count, read_fails};
 ghost use Rattle.esdk_memory.specs.MemFiles.{with_room};
 ghost use Rattle.esdk_seen.specs.Calls.{creates, finishes};
 ghost use Rattle.esdk_base.specs.Told.{TellsAppend, TellsCall, TellsRead, whom};
-ghost use Rattle.esdk_base.specs.Shelf.{AppendsTo, Creates, EndsAt, HasCauseOrMissing, ReadsFrom, is_missing};
+ghost use Rattle.esdk_base.specs.Shelf.{AppendsTo, Creates, EndsAt, HasCauseOrMissing, ReadsFrom};
+ghost use Rattle.esdk_base.specs.Shelf.{is_missing};
 
 use crate::call_plan::CallPlan;
 use crate::fronts::give_part;
@@ -115,8 +119,9 @@ impl Shelf for MemShelf {
             self.old.plan.faults self.new.plan.faults result }
         ensures calls { TellsRead self.old.calls self.new.calls result name.now at out.new }
         ensures failed { is_err result ≡ read_fails self.old name.now }
-        ensures count { IfOk result (λ n. n ≡ read_count self.old name.now at (length out.old)) }
-        ensures shelf { self.new ≡ record (after_read self.old name.now at (length out.old))
+        ensures count { IfOk result (λ n. n ≡ shelf_read_count self.old name.now at
+            (length out.old)) }
+        ensures shelf { self.new ≡ record (shelf_after_read self.old name.now at (length out.old))
             { calls = self.new.calls } }
     {
         let Some(bytes) = self.files.held(name) else {

@@ -6,7 +6,7 @@ ghost use Rattle.std.specs.Io.KnownBytes.{ReadConsumes};
 ghost use Rattle.esdk_memory.specs.CallPlan.{fails_next};
 ghost use Rattle.esdk_base.specs.Told.{ReadComes, ReadSeesEnd};
 ghost use Rattle.esdk_fields.specs.Counts.{CountsGiven, HasCause};
-ghost use Rattle.esdk_memory.specs.MemSource.{after_read, read_count};
+ghost use Rattle.esdk_memory.specs.MemSource.{source_after_read, source_read_count};
 
 use crate::call_plan::CallPlan;
 use crate::fronts::give_front;
@@ -101,8 +101,8 @@ impl Source for MemSource {
         ensures came { ReadComes self.old.came self.new.came result out.new }
         ensures ended { ReadSeesEnd self.old.ended self.new.ended result out.new }
         ensures failed { is_err result ≡ fails_next self.old.plan }
-        ensures count { IfOk result (λ n. n ≡ read_count (length out.old) self.old) }
-        ensures source { self.new ≡ record (after_read (length out.old) self.old)
+        ensures count { IfOk result (λ n. n ≡ source_read_count (length out.old) self.old) }
+        ensures source { self.new ≡ record (source_after_read (length out.old) self.old)
             { came = self.new.came; ended = self.new.ended } }
     {
         let Ok(()) = self.plan.begin(false) else {

@@ -31,8 +31,8 @@ use Rattle.esdk_run.specs.Audit.{AuditEnds, AuditFails, AuditIs, Audits, FindsAl
 use Rattle.esdk_run.specs.Objects.{Unchanged}
 use Rattle.esdk_run.specs.Run.{AuditRuns}
 use Rattle.esdk_run.proofs.Auditing.{told_many}
-use Rattle.esdk_program.specs.Effect.{ComesTo, Effect, KeyringFailed}
-use Rattle.esdk_program.specs.Program.{audit_effect, audited_all, lines_of, messages_in, with_file, with_read, with_told, with_value}
+use Rattle.esdk_program.specs.Effect.{RunComesTo, Effect, KeyringFailed}
+use Rattle.esdk_program.specs.Program.{audit_effect, audited_all, audit_lines_effect, messages_in, with_file, with_read, with_told, with_value_read}
 use Rattle.esdk_program.specs.World.{IsOf, Run, World}
 use Rattle.esdk_program.proofs.Ends.{gains_none, refuses, same_none, stops, stops_unwritten}
 use Rattle.esdk_program.proofs.Files.{IsPart, file_between, file_taken, part_all, part_second}
@@ -72,7 +72,7 @@ each_on old new before after (m ∷ ms) (x ∷ xs) each =
 
 module _ (r : Run) (name : List ℕ) (unchanged : Unchanged) (world : World) (of : IsOf r world) (same : unchanged.output → r.after.output ≡ r.before.output) where
   abbrev Done : Type 0
-  Done = IfSome (audit_effect name r.trees world) (ComesTo r world)
+  Done = IfSome (audit_effect name r.trees world) (RunComesTo r world)
 
   -- ---- what the program does
 
@@ -83,7 +83,7 @@ module _ (r : Run) (name : List ℕ) (unchanged : Unchanged) (world : World) (of
   leaves_so messages leaves = with_told (told_by leaves) (keys_so messages)
 
   abbrev tree_so : List AuditMessage → List ℕ → KeyringMeaning → Option Effect
-  tree_so messages ring tree = with_value (r.trees.leaves ring) (leaves_so messages)
+  tree_so messages ring tree = with_value_read (r.trees.leaves ring) (leaves_so messages)
 
   abbrev file_so : AuditFile → Option Effect
   file_so file = with_file (world.files file.keyring) (λ ring. with_read (r.trees.read ring) (tree_so file.messages ring))
@@ -91,7 +91,7 @@ module _ (r : Run) (name : List ℕ) (unchanged : Unchanged) (world : World) (of
   first_taken : (file : AuditFile) (bytes : List ℕ) → world.files name ≡ Some bytes → length bytes ≤ most_file → audit_of bytes ≡ Ok file → audit_effect name r.trees world ≡ file_so file
   unfolding audit_effect
   first_taken file bytes holds few is =
-      file_taken (world.files name) bytes (λ b. with_value (audit_of b) file_so) holds few ∙ ap (λ (x : Result AuditFile FileRefusal). with_value x file_so) is
+      file_taken (world.files name) bytes (λ b. with_value_read (audit_of b) file_so) holds few ∙ ap (λ (x : Result AuditFile FileRefusal). with_value_read x file_so) is
 
   -- ---- no audit
 
@@ -101,7 +101,7 @@ module _ (r : Run) (name : List ℕ) (unchanged : Unchanged) (world : World) (of
   no_audit : (failure : Failure) → HasNoAudit r.trees name r.before.shelf r.after.shelf failure → Reports failure r.code r.before.report r.after.report → r.after.output ≡ r.before.output → Done
   unfolding audit_effect
   no_audit failure none said still = elim none.cause [
-    | inl fails ↦ file_fails r world of r.before.shelf (behind_none r) audit_of (λ bytes x. with_value x file_so) name (λ bytes refusal. refl) failure fails said still
+    | inl fails ↦ file_fails r world of r.before.shelf (behind_none r) audit_of (λ bytes x. with_value_read x file_so) name (λ bytes refusal. refl) failure fails said still
     | inr lacks ↦ second_fails r world of lacks.between (behind_file lacks.file lacks.between lacks.audit) name lacks.audit.read.bytes lacks.audit.read.file (audit_effect name r.trees world)
         r.trees.read (λ ring x. with_read x (tree_so lacks.file.messages ring)) lacks.file.keyring (λ bytes refusal. refl)
         (λ holds. first_taken lacks.file lacks.audit.read.bytes holds lacks.audit.read.file.few lacks.audit.read.is) still failure lacks.cause said
@@ -136,7 +136,7 @@ module _ (r : Run) (name : List ℕ) (unchanged : Unchanged) (world : World) (of
         first_taken file audits.has.audit.read.bytes file_holds audits.has.audit.read.file.few audits.has.audit.read.is
         ∙ file_taken (world.files file.keyring) audits.has.keyring.bytes (λ ring. with_read (r.trees.read ring) (tree_so file.messages ring)) ring_holds audits.has.keyring.file.few
         ∙ ap (λ (x : Result (List KeyringMeaning) FileRefusal). with_read x (tree_so file.messages audits.has.keyring.bytes)) audits.has.keyring.is
-        ∙ ap (λ (x : Result (List KeyringMeaning) FileRefusal). with_value x (leaves_so file.messages)) audits.has.keyring.leaves_are
+        ∙ ap (λ (x : Result (List KeyringMeaning) FileRefusal). with_value_read x (leaves_so file.messages)) audits.has.keyring.leaves_are
 
     keyring_failed : Rose audits.tree.faults left.faults → KeyringFailed r world
     keyring_failed rose = record {
@@ -151,14 +151,14 @@ module _ (r : Run) (name : List ℕ) (unchanged : Unchanged) (world : World) (of
     }
 
     abbrev EachKeys : Type 0
-    EachKeys = (keys : List (List WrapKeyValue)) → told_by leaves ≡ Some keys → ComesTo r world (keys_so file.messages keys)
+    EachKeys = (keys : List (List WrapKeyValue)) → told_by leaves ≡ Some keys → RunComesTo r world (keys_so file.messages keys)
 
-    with_leaves : (o : Option (List (List WrapKeyValue))) → told_by leaves ≡ o → EachKeys → IfSome (with_told o (keys_so file.messages)) (ComesTo r world)
+    with_leaves : (o : Option (List (List WrapKeyValue))) → told_by leaves ≡ o → EachKeys → IfSome (with_told o (keys_so file.messages)) (RunComesTo r world)
     with_leaves None told each = tt
     with_leaves (Some keys) told each = each keys told
 
     with_keys : EachKeys → Done
-    with_keys each = subst (λ (o : Option Effect). IfSome o (ComesTo r world)) (sym all_taken) (with_leaves (told_by leaves) refl each)
+    with_keys each = subst (λ (o : Option Effect). IfSome o (RunComesTo r world)) (sym all_taken) (with_leaves (told_by leaves) refl each)
 
     -- ---- it was found of each message
 
@@ -167,20 +167,20 @@ module _ (r : Run) (name : List ℕ) (unchanged : Unchanged) (world : World) (of
       part : IsPart world.files read.calls r.after.shelf.calls
       part = part_second world.files r.before.shelf.calls read.calls r.after.shelf.calls (part_all world.files r.before.shelf r.after.shelf of.files) behind_both.grown later
 
-      lines_are : (keys : List (List WrapKeyValue)) → told_by leaves ≡ Some keys → Stayed (all_faults leaves) (all_faults leaves_left) → keys_so file.messages keys ≡ lines_of count found
+      lines_are : (keys : List (List WrapKeyValue)) → told_by leaves ≡ Some keys → Stayed (all_faults leaves) (all_faults leaves_left) → keys_so file.messages keys ≡ audit_lines_effect count found
       lines_are keys told stayed =
           let came = finds_what_came read r.after.shelf leaves leaves_left file.messages found keys each told stayed in
           let held = messages_came keys world.files file.messages came.came read.calls r.after.shelf.calls part came.have in
           let many : length keys ≡ count = told_many leaves keys told ∙ sym count_is in
-          ap (audited_all keys) held.1 ∙ ap (λ (n : ℕ). lines_of n (map (audited keys) held.0)) many ∙ ap (lines_of count) (sym held.2 ∙ sym came.are)
+          ap (audited_all keys) held.1 ∙ ap (λ (n : ℕ). audit_lines_effect n (map (audited keys) held.0)) many ∙ ap (audit_lines_effect count) (sym held.2 ∙ sym came.are)
 
-      with_lines : ComesTo r world (lines_of count found) → Done
+      with_lines : RunComesTo r world (audit_lines_effect count found) → Done
       with_lines so = with_keys (λ keys told. elim (cases_lt left.faults (counted audits.tree.faults 1)) [
-        | inl stayed ↦ subst (ComesTo r world) (sym (lines_are keys told (omega (arith, stayed, audits.has.faults, faults_left)))) so
+        | inl stayed ↦ subst (RunComesTo r world) (sym (lines_are keys told (omega (arith, stayed, audits.has.faults, faults_left)))) so
         | inr rose ↦ inr (inr (inr (inl (keyring_failed rose))))
       ])
 
-  all_found : (count : ℕ) (found : List Audited) → FindsAll r.trees name r.before.shelf r.after.shelf count found → ComesTo r world (lines_of count found) → Done
+  all_found : (count : ℕ) (found : List Audited) → FindsAll r.trees name r.before.shelf r.after.shelf count found → RunComesTo r world (audit_lines_effect count found) → Done
   all_found count found all so =
       with_lines all.read all.file all.left all.leaves all.audits (each_on all.read r.after.shelf all.leaves all.leaves_left all.file.messages found all.each).calls
       found all.leaves_left all.each count all.count_is all.faults_left so
@@ -216,7 +216,7 @@ module _ (r : Run) (name : List ℕ) (unchanged : Unchanged) (world : World) (of
         let none : world.files f.fails.message.from ≡ None = of.files.missing f.fails.message.from (sym (ap (λ (x : Option Files). is_missing x f.fails.message.from) (behind bytes row).files) ∙ missing) in
         let lacks : messages_in world.files f.file.messages ≡ None = ap (messages_in world.files) f.fails.are ∙ message_lacks world.files f.fails.done f.fails.behind f.fails.message none in
         with_keys f.read f.file f.left f.leaves f.audits (grown bytes row)
-        (λ keys told. subst (ComesTo r world) (sym (ap (audited_all keys) lacks)) (refuses r world [] (failures.Outside outsides.ShelfFault) (same_none r.before.output r.after.output still) said))
+        (λ keys told. subst (RunComesTo r world) (sym (ap (audited_all keys) lacks)) (refuses r world [] (failures.Outside outsides.ShelfFault) (same_none r.before.output r.after.output still) said))
 
     -- a leaf failed
     leaf_fails : (bytes : List ℕ) → row_of bytes → Rose (all_faults f.fails.leaves) f.left.faults
@@ -253,7 +253,7 @@ module _ (r : Run) (name : List ℕ) (unchanged : Unchanged) (world : World) (of
 
   ends_does : (failure : Failure) → AuditEnds r.trees name r.before.shelf r.after.shelf r.before.output r.after.output unchanged.output failure → Reports failure r.code r.before.report r.after.report → Done
   ends_does (failures.Outside outsides.SinkFault) lost said =
-      all_found lost.count lost.found lost.all (stops r world (lines_of lost.count lost.found) (failures.Outside outsides.SinkFault) lost.front.rose said lost.front.front)
+      all_found lost.count lost.found lost.all (stops r world (audit_lines_effect lost.count lost.found) (failures.Outside outsides.SinkFault) lost.front.rose said lost.front.front)
   ends_does failure fails said = fails_does failure fails.0 said (same fails.1)
 
   pub audit_does : AuditRuns r.trees name r.before r.after unchanged r.code → Done

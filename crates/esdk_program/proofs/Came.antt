@@ -2,16 +2,15 @@
 use Rattle.std.proofs.Common.{◌≡◌, ◌∙◌, ℕ, ◌-◌, ◌^◌, ◌<◌, ◌≤◌, nat_le, Bool, true, false, List, [], ◌++◌, length, replicate, zero, suc, Option, Some, None, refl, sym, ap, arith, append_assoc, append-nil, length-append, le-leb}
 use Rattle.std.proofs.lemmas.List.{append_cancel_left, length-replicate, take_all}
 use Rattle.std.proofs.lemmas.List.Elements.{filter-append}
-use Rattle.esdk_base.specs.Streams.{SourceState}
+use Rattle.esdk_base.specs.Streams.{SourceState, most_input}
 use Rattle.armour_core.specs.Outlook.{end_of, taken_front, text_outlook}
 use Rattle.armour_core.specs.Unarmoured.{Unarmoured, characters, group_count, groups_read, is_character, unarmoured}
 use Rattle.armour_core.specs.declared.text_end.TextEnd.{TextEnd}
 use Rattle.armour_core.specs.declared.text_end.TextEnd.TheVariants as ends
 use Rattle.armour_core.proofs.Reading.{bad_read}
 use Rattle.armour_core.proofs.Stepping.{grows, stays_bad}
-use Rattle.whole_input.specs.Pieces.{most_input}
 use Rattle.whole_input.specs.Taken.{Came}
-use Rattle.esdk_run.specs.Unarmoured.{AllRead, EndsSo, ReadsText}
+use Rattle.esdk_run.specs.Unarmoured.{AllRead, TextEndsSo, ReadsText}
 use Rattle.esdk_run.proofs.Unarmouring.{bytes_are}
 use Rattle.esdk_program.specs.World.{InputIs}
 
@@ -68,7 +67,7 @@ long_ends text full sound =
     ∙ ap (λ (b : Bool). end_of None b (unarmoured (taken_front text)).short (group_count (taken_front text))) (le-leb most_input (length text) (omega (arith, full)))
 
 -- so a text whose end wasn't seen, and that has no bad group, may end otherwise
-not_bad : (taken : SourceState) (text : List ℕ) (number : ℕ) → length text ≤ 2 ^ 62 → EndsSo taken text (ends.Bad number) → taken.ended ≡ false → (unarmoured text).bad ≡ None → ⊥
+not_bad : (taken : SourceState) (text : List ℕ) (number : ℕ) → length text ≤ 2 ^ 62 → TextEndsSo taken text (ends.Bad number) → taken.ended ≡ false → (unarmoured text).bad ≡ None → ⊥
 not_bad taken text number few so going sound =
     let breaks : List ℕ = replicate (most_input - length text) 10 in
     let unseen : taken.ended ≡ true → breaks ≡ [] = λ seen. (let both : true ≡ false = sym seen ∙ going in absurd (cc both)) in
@@ -77,7 +76,7 @@ not_bad taken text number few so going sound =
     cc both
 
 -- what such a text gives is what the input gives
-pub bad_same : (taken : SourceState) (text input : List ℕ) (number : ℕ) → BeginsInput taken input text → length input < 2 ^ 62 → length text ≤ 2 ^ 62 → EndsSo taken text (ends.Bad number)
+pub bad_same : (taken : SourceState) (text input : List ℕ) (number : ℕ) → BeginsInput taken input text → length input < 2 ^ 62 → length text ≤ 2 ^ 62 → TextEndsSo taken text (ends.Bad number)
     → (text_outlook input).bytes ≡ (unarmoured text).bytes
 bad_same taken text input number begins few short so =
     bytes_are input (omega (arith, few)) ∙ ap (λ (t : List ℕ). (unarmoured t).bytes) begins.all ∙ by_bad (unarmoured text).bad refl
@@ -92,7 +91,7 @@ bad_same taken text input number begins few short so =
 
 -- ---- the end of the input's text
 
-pub end_same : (taken : SourceState) (text input : List ℕ) (end : TextEnd) → BeginsInput taken input text → EndsSo taken text end → (text_outlook input).end ≡ end
+pub end_same : (taken : SourceState) (text input : List ℕ) (end : TextEnd) → BeginsInput taken input text → TextEndsSo taken text end → (text_outlook input).end ≡ end
 end_same taken text input end begins so = ap (λ (t : List ℕ). (text_outlook t).end) begins.all ∙ so begins.rest begins.whole
 
 -- ---- the bytes that a text gives

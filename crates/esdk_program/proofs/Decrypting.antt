@@ -10,7 +10,7 @@ use Rattle.esdk_fields.specs.declared.refusals.Outside.TheVariants as outsides
 use Rattle.esdk_fields.specs.Place.{start}
 use Rattle.esdk_fields.specs.Reading.{Reading, Read, Refused, Wanting}
 use Rattle.esdk_base.specs.Streams.{SinkState, SourceState}
-use Rattle.header_codec.specs.Table.{Head, header}
+use Rattle.header_codec.specs.Table.{HeaderFields, header}
 use Rattle.context_codec.specs.Context.{KeyValue}
 use Rattle.keyring_trait.specs.Keyring.{KeyringMeaning}
 use Rattle.keyring_trait.specs.Wrapping.{WrapKeyValue}
@@ -29,16 +29,16 @@ use Rattle.esdk_decrypt.specs.Told.{Reader, judged_by}
 use Rattle.esdk_report.specs.Report.{Reports}
 use Rattle.esdk_report.specs.declared.failure.Failure.{Failure}
 use Rattle.esdk_report.specs.declared.failure.Failure.TheVariants as failures
-use Rattle.esdk_run.specs.Decrypt.{DecryptFails, decrypt_asked, limits_of, reader_of}
+use Rattle.esdk_run.specs.Decrypt.{DecryptFails, decrypt_asked, decrypt_settings, reader_of}
 use Rattle.esdk_run.specs.Objects.{Unchanged, with_input}
-use Rattle.esdk_run.specs.Read.{EndsAsRead, ReadsFault, ReadsNoFault, ReadsWhole, SaysWhatIsReadAs}
+use Rattle.esdk_run.specs.Read.{EndsAsRead, DecryptReadsFault, ReadsNoFault, DecryptReadsWhole, SaysWhatIsReadAs}
 use Rattle.esdk_run.specs.Run.{DecryptRuns}
-use Rattle.esdk_run.specs.Told.{SaysWhatItReads}
+use Rattle.esdk_run.proofs.Promised.{SaysWhatItReads}
 use Rattle.esdk_run.specs.Trees.{HasTree}
 use Rattle.esdk_run.specs.Unarmoured.{AllRead, EndsText, ReadsText, TextEnds, outlook_of}
 use Rattle.esdk_run.specs.UnarmouredDecrypt.{DecryptEndsAs}
-use Rattle.esdk_program.specs.Effect.{ComesTo, Effect, KeyringFailed}
-use Rattle.esdk_program.specs.Program.{decrypt_effect, failure_at, opened_with, with_told}
+use Rattle.esdk_program.specs.Effect.{RunComesTo, Effect, KeyringFailed}
+use Rattle.esdk_program.specs.Program.{decrypt_effect, failure_at, judged_effect, with_told}
 use Rattle.esdk_program.specs.World.{IsOf, Run, World}
 use Rattle.esdk_program.proofs.Came.{bad_same, begins_input, end_same, is_all, is_few, one_text, read_all, read_begins, read_is}
 use Rattle.esdk_program.proofs.Ends.{stops_unwritten}
@@ -60,8 +60,8 @@ early_is (verdicts.Faulty same) fault e = e
 module _ (r : Run) (world : World) (of : IsOf r world) (reader : Reader) where
   -- ---- an input as it is
 
-  plain_fault : (fault : Fault) → ReadsFault reader r.before r.after fault → Reports (failures.Fault fault) r.code r.before.report r.after.report
-      → ComesTo r world (opened_with reader (outlook_of false world.input))
+  plain_fault : (fault : Fault) → DecryptReadsFault reader r.before r.after fault → Reports (failures.Fault fault) r.code r.before.report r.after.report
+      → RunComesTo r world (judged_effect reader (outlook_of false world.input))
   plain_fault fault reads said =
       let begins = begins_input r.before.input r.after.input world.input reads.bytes of.input reads.gains.came in
       elim reads.cause [
@@ -71,7 +71,7 @@ module _ (r : Run) (world : World) (of : IsOf r world) (reader : Reader) where
       ]
 
   plain_ends : (failure : Failure) → EndsAsRead reader r.before r.after failure → Reports failure r.code r.before.report r.after.report
-      → ComesTo r world (opened_with reader (outlook_of false world.input))
+      → RunComesTo r world (judged_effect reader (outlook_of false world.input))
   plain_ends (failures.Fault fault) reads said = plain_fault fault reads said
   plain_ends (failures.Outside outsides.SourceFault) reads said =
       let begins = begins_input r.before.input r.after.input world.input reads.bytes of.input reads.gains.came in
@@ -84,10 +84,10 @@ module _ (r : Run) (world : World) (of : IsOf r world) (reader : Reader) where
       opens_front r world reader (outlook_of false world.input) reads.0.bytes begins.rest (failures.Outside outsides.SinkFault) begins.all reads.1 said
       (front_beyond r.before.output r.after.output (content (judged_by reader reads.0.last.before)) (content (judged_by reader reads.0.bytes)) reads.0.last.was.written)
   plain_ends failures.Memory reads said =
-      stops_unwritten r world (Some (opened_with reader (outlook_of false world.input))) failures.Memory tt said reads.unwritten
+      stops_unwritten r world (Some (judged_effect reader (outlook_of false world.input))) failures.Memory tt said reads.unwritten
   plain_ends failure reads said = absurd reads
 
-  plain_whole : ReadsWhole reader r.before r.after r.code → ComesTo r world (opened_with reader (outlook_of false world.input))
+  plain_whole : DecryptReadsWhole reader r.before r.after r.code → RunComesTo r world (judged_effect reader (outlook_of false world.input))
   plain_whole reads =
       let begins = begins_input r.before.input r.after.input world.input reads.bytes of.input reads.gains.came in
       opens_whole r world reader (outlook_of false world.input) reads.bytes reads.context (is_all r.after.input world.input reads.bytes begins reads.end.seen) refl
@@ -96,8 +96,8 @@ module _ (r : Run) (world : World) (of : IsOf r world) (reader : Reader) where
   -- ---- an armour text
 
   text_whole : EndsText r.before.input r.after.input ends.Whole
-      → (x : ReadsText AllRead r.before.input r.after.input (λ seen read. ReadsWhole reader (with_input r.before seen) (with_input r.after read) r.code))
-      → ComesTo r world (opened_with reader (outlook_of true world.input))
+      → (x : ReadsText AllRead r.before.input r.after.input (λ seen read. DecryptReadsWhole reader (with_input r.before seen) (with_input r.after read) r.code))
+      → RunComesTo r world (judged_effect reader (outlook_of true world.input))
   text_whole end x =
       opens_whole r world reader (outlook_of true world.input) x.so.bytes x.so.context (read_all r.before.input r.after.input world.input of.input of.few _ x x.so.bytes x.so.gains.came x.reach (end.seen refl))
       (end_same r.after.input end.text world.input ends.Whole (begins_input r.before.input r.after.input world.input end.text of.input end.came) end.ends)
@@ -106,7 +106,7 @@ module _ (r : Run) (world : World) (of : IsOf r world) (reader : Reader) where
   -- M27
   text_bad : (number : ℕ) → EndsText r.before.input r.after.input (ends.Bad number)
       → (x : ReadsText AllRead r.before.input r.after.input (λ seen read. ReadsNoFault reader (with_input r.before seen) (with_input r.after read) (EndSeen seen read)))
-      → Reports (failures.Fault (BadArmour number)) r.code r.before.report r.after.report → ComesTo r world (opened_with reader (outlook_of true world.input))
+      → Reports (failures.Fault (BadArmour number)) r.code r.before.report r.after.report → RunComesTo r world (judged_effect reader (outlook_of true world.input))
   text_bad number end x said =
       let begins = begins_input r.before.input r.after.input world.input end.text of.input end.came in
       let same : end.text ≡ x.text = one_text r.before.input r.after.input end.text x.text end.came x.came in
@@ -119,8 +119,8 @@ module _ (r : Run) (world : World) (of : IsOf r world) (reader : Reader) where
 
   -- M10
   text_cut : EndsText r.before.input r.after.input ends.Whole
-      → (x : ReadsText AllRead r.before.input r.after.input (λ seen read. ReadsFault reader (with_input r.before seen) (with_input r.after read) Truncated))
-      → Reports (failures.Fault Truncated) r.code r.before.report r.after.report → ComesTo r world (opened_with reader (outlook_of true world.input))
+      → (x : ReadsText AllRead r.before.input r.after.input (λ seen read. DecryptReadsFault reader (with_input r.before seen) (with_input r.after read) Truncated))
+      → Reports (failures.Fault Truncated) r.code r.before.report r.after.report → RunComesTo r world (judged_effect reader (outlook_of true world.input))
   text_cut end x said =
       let bytes : (text_outlook world.input).bytes ≡ x.so.bytes = read_all r.before.input r.after.input world.input of.input of.few _ x x.so.bytes x.so.gains.came x.reach (end.seen refl) in
       let cut : fault_at_end (judged_by reader x.so.bytes).verdict ≡ Some Truncated =
@@ -133,8 +133,8 @@ module _ (r : Run) (world : World) (of : IsOf r world) (reader : Reader) where
 
   -- a fault of the bytes
   text_fault : {Reach : List ℕ → List ℕ → Type 0} (fault : Fault) → (Truncated ≡ fault → ⊥)
-      → (x : ReadsText Reach r.before.input r.after.input (λ seen read. ReadsFault reader (with_input r.before seen) (with_input r.after read) fault))
-      → Reports (failures.Fault fault) r.code r.before.report r.after.report → ComesTo r world (opened_with reader (outlook_of true world.input))
+      → (x : ReadsText Reach r.before.input r.after.input (λ seen read. DecryptReadsFault reader (with_input r.before seen) (with_input r.after read) fault))
+      → Reports (failures.Fault fault) r.code r.before.report r.after.report → RunComesTo r world (judged_effect reader (outlook_of true world.input))
   text_fault fault other x said =
       let begins = read_begins r.before.input r.after.input world.input of.input of.few _ x x.so.bytes x.so.gains.came in
       let early : fault_of (judged_by reader x.so.bytes).verdict ≡ Some fault =
@@ -147,7 +147,7 @@ module _ (r : Run) (world : World) (of : IsOf r world) (reader : Reader) where
       (λ seen read. ReadsNoFault reader (with_input r.before seen) (with_input r.after read) (EndSeen seen read))
       (λ seen read. ReadsNoFault reader (with_input r.before seen) (with_input r.after read) (λ bytes. ⊤))
 
-  text_ends : (failure : Failure) → EndsAsText failure → Reports failure r.code r.before.report r.after.report → ComesTo r world (opened_with reader (outlook_of true world.input))
+  text_ends : (failure : Failure) → EndsAsText failure → Reports failure r.code r.before.report r.after.report → RunComesTo r world (judged_effect reader (outlook_of true world.input))
   text_ends (failures.Fault (BadArmour number)) (end, x) said = text_bad number end x said
   text_ends (failures.Fault Truncated) (end, x) said = text_cut end x said
   text_ends (failures.Fault fault) x said = text_fault fault (λ same. cc same) x said
@@ -161,12 +161,12 @@ module _ (r : Run) (world : World) (of : IsOf r world) (reader : Reader) where
       opens_front r world reader (outlook_of true world.input) x.so.0.bytes begins.0 (failures.Outside outsides.SinkFault) begins.1 x.so.1 said
       (front_beyond r.before.output r.after.output (content (judged_by reader x.so.0.last.before)) (content (judged_by reader x.so.0.bytes)) x.so.0.last.was.written)
   text_ends failures.Memory x said =
-      stops_unwritten r world (Some (opened_with reader (outlook_of true world.input))) failures.Memory tt said x.so.unwritten
+      stops_unwritten r world (Some (judged_effect reader (outlook_of true world.input))) failures.Memory tt said x.so.unwritten
   text_ends failure x said = absurd x.so
 
   -- ---- both
 
-  pub read_does : (armour : Bool) → SaysWhatIsReadAs armour reader r.before r.after r.code → ComesTo r world (opened_with reader (outlook_of armour world.input))
+  pub read_does : (armour : Bool) → SaysWhatIsReadAs armour reader r.before r.after r.code → RunComesTo r world (judged_effect reader (outlook_of armour world.input))
   read_does false (inl whole) = plain_whole whole
   read_does false (inr fails) = plain_ends fails.failure fails.because fails.said
   read_does true (inl (end, x)) = text_whole end x
@@ -174,7 +174,7 @@ module _ (r : Run) (world : World) (of : IsOf r world) (reader : Reader) where
 
 -- ---- a keyring that was asked failed
 
-failing : (asked : DecryptWords) (given : List KeyValue) (tree left : KeyringMeaning) (bytes : List ℕ) (h : Reading Head)
+failing : (asked : DecryptWords) (given : List KeyValue) (tree left : KeyringMeaning) (bytes : List ℕ) (h : Reading HeaderFields)
     → FailsReading (decrypt_asked asked given tree left).manager given bytes h → Rose tree.faults left.faults
 failing asked given tree left bytes (Read parts body) fails = fails.1
 failing asked given tree left bytes (Refused fault at) fails = absurd fails
@@ -183,19 +183,19 @@ failing asked given tree left bytes Wanting fails = absurd fails
 keyring_ends : (armour : Bool) (asked : DecryptWords) (given : List KeyValue) (tree left : KeyringMeaning) (input taken : SourceState) (output put : SinkState) (unwritten : Type 0)
     → DecryptEndsAs armour (decrypt_asked asked given tree left) input taken output put unwritten (errors.Outside outsides.KeyringFault) → Rose tree.faults left.faults × unwritten
 keyring_ends false asked given tree left input taken output put unwritten ends =
-    (failing asked given tree left ends.0.bytes (header (limits_of asked) (start ends.0.bytes)) ends.0.failed, ends.1)
+    (failing asked given tree left ends.0.bytes (header (decrypt_settings asked) (start ends.0.bytes)) ends.0.failed, ends.1)
 keyring_ends true asked given tree left input taken output put unwritten x =
-    (failing asked given tree left x.so.0.bytes (header (limits_of asked) (start x.so.0.bytes)) x.so.0.failed, x.so.1)
+    (failing asked given tree left x.so.0.bytes (header (decrypt_settings asked) (start x.so.0.bytes)) x.so.0.failed, x.so.1)
 
 -- ---- the run
 
 module _ (r : Run) (asked : DecryptWords) (unchanged : Unchanged) (world : World) (of : IsOf r world) (same : unchanged.output → r.after.output ≡ r.before.output)
     (reads : SaysWhatItReads r.trees asked r.before r.after r.code) where
   abbrev Done : Type 0
-  Done = IfSome (decrypt_effect asked r.trees world) (ComesTo r world)
+  Done = IfSome (decrypt_effect asked r.trees world) (RunComesTo r world)
 
   abbrev opened : List KeyValue → KeyringMeaning → Option Effect
-  opened given tree = with_told tree.keys (λ keys. opened_with (reader_of asked given keys) (outlook_of asked.armour world.input))
+  opened given tree = with_told tree.keys (λ keys. judged_effect (reader_of asked given keys) (outlook_of asked.armour world.input))
 
   keyring_failed : (given : List KeyValue) (tree left : KeyringMeaning) → HasTree r.trees asked.pairs asked.keyring r.before.shelf r.after.shelf given tree left
       → Rose tree.faults left.faults → KeyringFailed r world
@@ -212,7 +212,7 @@ module _ (r : Run) (asked : DecryptWords) (unchanged : Unchanged) (world : World
 
   -- the tree tells these keys
   with_these : (given : List KeyValue) (tree left : KeyringMeaning) → HasTree r.trees asked.pairs asked.keyring r.before.shelf r.after.shelf given tree left
-      → (o : Option (List WrapKeyValue)) → tree.keys ≡ o → IfSome (with_told o (λ keys. opened_with (reader_of asked given keys) (outlook_of asked.armour world.input))) (ComesTo r world)
+      → (o : Option (List WrapKeyValue)) → tree.keys ≡ o → IfSome (with_told o (λ keys. judged_effect (reader_of asked given keys) (outlook_of asked.armour world.input))) (RunComesTo r world)
   with_these given tree left has None told = tt
   with_these given tree left has (Some keys) told =
       let all = reads given keys (record { left = left; pairs = has.given.made; kept = has.kept; told = has.goes.keys ∙ told }) in
@@ -233,7 +233,7 @@ module _ (r : Run) (asked : DecryptWords) (unchanged : Unchanged) (world : World
   with_tree_does : (given : List KeyValue) (tree left : KeyringMeaning) → HasTree r.trees asked.pairs asked.keyring r.before.shelf r.after.shelf given tree left → Done
   unfolding decrypt_effect
   with_tree_does given tree left has =
-      subst (λ (o : Option Effect). IfSome o (ComesTo r world))
+      subst (λ (o : Option Effect). IfSome o (RunComesTo r world))
       (sym (prepared_taken asked.pairs given r.trees world asked.keyring has.file.bytes tree opened has.given.made
       (whole_file world.files asked.keyring has.file.bytes r.before.shelf r.after.shelf of.files has.file.file.read) has.file.file.few has.file.is))
       (with_these given tree left has tree.keys refl)

@@ -8,11 +8,11 @@ use Rattle.esdk_base.specs.Sink.{AppendsFront}
 use Rattle.esdk_base.specs.Streams.{SinkState}
 use Rattle.whole_input.proofs.Fronts.{front_longer, front_none}
 use Rattle.context_codec.specs.Context.{KeyValue}
-use Rattle.esdk_report.specs.Report.{Gains, IsReported, Reports, ShowsContext, context_line}
+use Rattle.esdk_report.specs.Report.{ReportGains, IsReported, Reports, ShowsContext, context_line}
 use Rattle.esdk_report.specs.declared.failure.Failure.{Failure}
 use Rattle.esdk_report.specs.declared.failure.Failure.TheVariants as failures
 use Rattle.esdk_run.specs.Run.{TellsOrLacksMemory}
-use Rattle.esdk_program.specs.Effect.{ComesTo, Effect, HasFailed, done_with, refused}
+use Rattle.esdk_program.specs.Effect.{RunComesTo, Effect, RunFailed, done_with, refused}
 use Rattle.esdk_program.specs.World.{Run, World}
 
 -- ---- fronts
@@ -33,14 +33,14 @@ same_none old new same = subst (λ (s : SinkState). Appends old.written s.writte
 
 -- ---- the report
 
-pub gains_none : (old new : SinkState) → new ≡ old → Gains [] old new
+pub gains_none : (old new : SinkState) → new ≡ old → ReportGains [] old new
 gains_none old new same = record {
   later = omega (arith, ap (λ (s : SinkState). s.faults) same);
   front = same_front old new [] same;
   whole = λ stayed. same_none old new same;
 }
 
-pub gains_shown : (pairs : List KeyValue) (code : ℕ) (old new : SinkState) → ShowsContext pairs code old new → Gains (context_line pairs) old new
+pub gains_shown : (pairs : List KeyValue) (code : ℕ) (old new : SinkState) → ShowsContext pairs code old new → ReportGains (context_line pairs) old new
 gains_shown pairs code old new shown = record {
   later = omega (arith, shown.faults);
   front = front_all old.written new.written (context_line pairs) shown.line;
@@ -69,30 +69,30 @@ at_any None P each = tt
 
 module _ (r : Run) (world : World) where
   -- memory ran out, or an object or a keyring failed
-  pub stops : (e : Effect) (failure : Failure) → HasFailed r world failure → IsReported failure r.code r.before.report r.after.report
-      → AppendsFront r.before.output.written r.after.output.written e.output → ComesTo r world e
+  pub stops : (e : Effect) (failure : Failure) → RunFailed r world failure → IsReported failure r.code r.before.report r.after.report
+      → AppendsFront r.before.output.written r.after.output.written e.output → RunComesTo r world e
   stops e failure why said front = inr (inl (record { failure = failure; why = why; said = said; front = front }))
 
   -- and nothing was written
-  pub stops_unwritten : (o : Option Effect) (failure : Failure) → HasFailed r world failure → IsReported failure r.code r.before.report r.after.report
-      → r.after.output ≡ r.before.output → IfSome o (ComesTo r world)
-  stops_unwritten o failure why said same = at_any o (ComesTo r world) (λ e. stops e failure why said (same_front r.before.output r.after.output e.output same))
+  pub stops_unwritten : (o : Option Effect) (failure : Failure) → RunFailed r world failure → IsReported failure r.code r.before.report r.after.report
+      → r.after.output ≡ r.before.output → IfSome o (RunComesTo r world)
+  stops_unwritten o failure why said same = at_any o (RunComesTo r world) (λ e. stops e failure why said (same_front r.before.output r.after.output e.output same))
 
   -- a refusal or a fault, behind this text
   pub refuses : (text : List ℕ) (failure : Failure) → Appends r.before.output.written r.after.output.written text → Reports failure r.code r.before.report r.after.report
-      → ComesTo r world (refused text failure)
+      → RunComesTo r world (refused text failure)
   refuses text failure gained said = elim (reported failure r.code r.before.report r.after.report said) [
     | inl is ↦ inl (record { code = is.status; output = gained; report = is.line })
     | inr memory ↦ stops (refused text failure) failures.Memory tt memory (front_all r.before.output.written r.after.output.written text gained)
   ]
 
   pub refuses_unwritten : (o : Option Effect) (failure : Failure) → o ≡ Some (refused [] failure) → Reports failure r.code r.before.report r.after.report
-      → r.after.output ≡ r.before.output → IfSome o (ComesTo r world)
-  refuses_unwritten o failure is said same = at_some o (refused [] failure) (ComesTo r world) is (refuses [] failure (same_none r.before.output r.after.output same) said)
+      → r.after.output ≡ r.before.output → IfSome o (RunComesTo r world)
+  refuses_unwritten o failure is said same = at_some o (refused [] failure) (RunComesTo r world) is (refuses [] failure (same_none r.before.output r.after.output same) said)
 
   -- the whole context was told, behind this text
   pub tells : (text : List ℕ) (context : List KeyValue) → Appends r.before.output.written r.after.output.written text → TellsOrLacksMemory context r.code r.before.report r.after.report
-      → ComesTo r world (done_with text (context_line context))
+      → RunComesTo r world (done_with text (context_line context))
   tells text context gained (inl (inl shown)) =
       inl (record { code = shown.status; output = gained; report = gains_shown context r.code r.before.report r.after.report shown })
   tells text context gained (inl (inr lost)) = inr (inr (inl (record { code = lost.status; output = gained; report = lost.front; rose = lost.rose })))

@@ -16,11 +16,11 @@ use Rattle.keyring_trait.specs.Wrapping.{WrapKeyValue}
 use Rattle.whole_input.specs.FileReads.{Grows, IsSeenAs, reads_in_row}
 use Rattle.whole_input.proofs.Agreeing.{grows_none, read_second}
 use Rattle.esdk_decrypt.specs.Decrypt.{AnswersTo}
-use Rattle.esdk_decrypt.specs.Told.{Reader, answering_by, asked_by}
+use Rattle.esdk_decrypt.specs.Told.{Reader, answering_by, decrypting_by}
 use Rattle.esdk_decrypt.proofs.Readers.{answers_unlocking}
 use Rattle.extract_core.specs.declared.errors.ExtractError.{ExtractError}
 use Rattle.extract_core.specs.declared.errors.ExtractError.TheVariants as errors
-use Rattle.extract_core.specs.Extract.{ExtractEnds, WritesFront, WritesLess}
+use Rattle.extract_core.specs.Extract.{ExtractEnds, ExtractWritesFront, WritesLess}
 use Rattle.extract_core.specs.Extracted.{Extraction, extracted}
 use Rattle.esdk_report.specs.Report.{Reports}
 use Rattle.esdk_report.specs.declared.failure.Failure.{Failure}
@@ -31,7 +31,7 @@ use Rattle.esdk_run.specs.Failures.{extraction_failure}
 use Rattle.esdk_run.specs.Objects.{Unchanged}
 use Rattle.esdk_run.specs.Run.{ExtractRuns}
 use Rattle.esdk_run.proofs.Extraction.{Ended, reader_ended}
-use Rattle.esdk_program.specs.Effect.{ComesTo, Effect, KeyringFailed, refused}
+use Rattle.esdk_program.specs.Effect.{RunComesTo, Effect, KeyringFailed, refused}
 use Rattle.esdk_program.specs.Program.{extract_effect, part_with, range_of_file, with_told}
 use Rattle.esdk_program.specs.World.{IsOf, Run, World}
 use Rattle.esdk_program.proofs.Ends.{gains_none, refuses, same_front, same_none, stops, stops_unwritten}
@@ -50,10 +50,10 @@ module _ (r : Run) (world : World) (of : IsOf r world) (asked : ExtractWords) (m
   extraction bytes = extracted_by reader bytes (range_asked asked)
 
   abbrev About : ExtractError → Type 0
-  About error = ExtractEnds (asked_by reader) (range_asked asked) middle r.after.shelf asked.from r.before.output r.after.output unwritten error
+  About error = ExtractEnds (decrypting_by reader) (range_asked asked) middle r.after.shelf asked.from r.before.output r.after.output unwritten error
 
   abbrev Less : Type 0
-  Less = WritesLess (asked_by reader) (range_asked asked) middle r.after.shelf asked.from r.before.output r.after.output unwritten
+  Less = WritesLess (decrypting_by reader) (range_asked asked) middle r.after.shelf asked.from r.before.output r.after.output unwritten
 
   -- what the file holds agrees with its reads
   seen_as : (bytes : List ℕ) → world.files asked.from ≡ Some bytes → IsSeenAs middle r.after.shelf asked.from bytes
@@ -76,7 +76,7 @@ module _ (r : Run) (world : World) (of : IsOf r world) (asked : ExtractWords) (m
   not_there none there = absurd (let both : true ≡ false = sym (is_none none) ∙ there in cc both)
 
   none_ends : world.files asked.from ≡ None → (error : ExtractError) → About error → Reports (extraction_failure error) r.code r.before.report r.after.report
-      → ComesTo r world (range_of_file reader (range_asked asked) None)
+      → RunComesTo r world (range_of_file reader (range_asked asked) None)
   none_ends none (errors.Fault fault) ends said = not_there none ends.there
   none_ends none (errors.Outside outsides.ShelfFault) ends said = elim ends.0 [
     | inl rose ↦ stops r world (refused [] (failures.Outside outsides.ShelfFault)) (failures.Outside outsides.ShelfFault) (rose_is rose) said
@@ -98,7 +98,7 @@ module _ (r : Run) (world : World) (of : IsOf r world) (asked : ExtractWords) (m
     a_front : AppendsFront r.before.output.written r.after.output.written (extraction bytes).part → AppendsFront r.before.output.written r.after.output.written e.output
     a_front front = subst (λ (t : List ℕ). AppendsFront r.before.output.written r.after.output.written t) (part_output (extraction bytes).part (extraction bytes).fault) front
 
-    front_written : WritesFront (asked_by reader) (range_asked asked) middle r.after.shelf r.before.output r.after.output bytes → AppendsFront r.before.output.written r.after.output.written e.output
+    front_written : ExtractWritesFront (decrypting_by reader) (range_asked asked) middle r.after.shelf r.before.output r.after.output bytes → AppendsFront r.before.output.written r.after.output.written e.output
     front_written w = a_front (subst (λ (x : Extraction). AppendsFront r.before.output.written r.after.output.written x.part) (extracted_is bytes w.answer w.answered) w.gained)
 
     less_written : Less → AppendsFront r.before.output.written r.after.output.written e.output
@@ -110,11 +110,11 @@ module _ (r : Run) (world : World) (of : IsOf r world) (asked : ExtractWords) (m
     effect_is : (x : Extraction) (fault : Option Fault) → x ≡ extraction bytes → x.fault ≡ fault → e ≡ part_with x.part fault
     effect_is x fault same_x so = ap (λ (y : Extraction). part_with y.part y.fault) (sym same_x) ∙ ap (part_with x.part) so
 
-    some_ends : (error : ExtractError) → About error → Reports (extraction_failure error) r.code r.before.report r.after.report → ComesTo r world e
+    some_ends : (error : ExtractError) → About error → Reports (extraction_failure error) r.code r.before.report r.after.report → RunComesTo r world e
     some_ends (errors.Fault fault) ends said =
         let w = ends.writes bytes (seen_as bytes is) in
         let x : Extraction = extracted bytes reader.settings w.answer (range_asked asked) in
-        subst (λ (y : Effect). ComesTo r world y) (sym (effect_is x (Some fault) (extracted_is bytes w.answer w.answered) w.fault_is)) (refuses r world x.part (failures.Fault fault) w.gained said)
+        subst (λ (y : Effect). RunComesTo r world y) (sym (effect_is x (Some fault) (extracted_is bytes w.answer w.answered) w.fault_is)) (refuses r world x.part (failures.Fault fault) w.gained said)
     some_ends (errors.Outside outsides.ShelfFault) ends said = elim ends.0 [
       | inl rose ↦ stops r world e (failures.Outside outsides.ShelfFault) (rose_is rose) said (less_written ends.1)
       | inr missing ↦ (let none : world.files asked.from ≡ None = of.files.missing asked.from (sym (ap (λ (f : Option Files). is_missing f asked.from) files) ∙ missing.0) in
@@ -127,13 +127,13 @@ module _ (r : Run) (world : World) (of : IsOf r world) (asked : ExtractWords) (m
 
   -- ---- both
 
-  by_file : (o : Option (List ℕ)) → world.files asked.from ≡ o → Ended (asked_by reader) asked middle r.before r.after unwritten r.code → ComesTo r world (range_of_file reader (range_asked asked) o)
+  by_file : (o : Option (List ℕ)) → world.files asked.from ≡ o → Ended (decrypting_by reader) asked middle r.before r.after unwritten r.code → RunComesTo r world (range_of_file reader (range_asked asked) o)
   by_file None none (inl (done, (written, extracts))) = not_there none extracts.there
   by_file None none (inr (error, (ends, said))) = none_ends none error ends said
   by_file (Some bytes) is (inl (done, (written, extracts))) =
       let w = extracts.writes bytes (seen_as bytes is) in
       let x : Extraction = extracted bytes reader.settings w.answer (range_asked asked) in
-      subst (λ (y : Effect). ComesTo r world y) (sym (effect_is bytes is x None (extracted_is bytes w.answer w.answered) w.sound))
+      subst (λ (y : Effect). RunComesTo r world y) (sym (effect_is bytes is x None (extracted_is bytes w.answer w.answered) w.sound))
       (inl (record { code = done.status; output = w.gained; report = gains_none r.before.report r.after.report done.same }))
   by_file (Some bytes) is (inr (error, (ends, said))) = some_ends bytes is error ends said
 
@@ -141,7 +141,7 @@ module _ (r : Run) (world : World) (of : IsOf r world) (asked : ExtractWords) (m
 
 module _ (r : Run) (asked : ExtractWords) (unchanged : Unchanged) (world : World) (of : IsOf r world) (same : unchanged.output → r.after.output ≡ r.before.output) where
   abbrev Done : Type 0
-  Done = IfSome (extract_effect asked r.trees world) (ComesTo r world)
+  Done = IfSome (extract_effect asked r.trees world) (RunComesTo r world)
 
   abbrev range_with : List KeyValue → List WrapKeyValue → Effect
   range_with given keys = range_of_file (extract_reader asked given keys) (range_asked asked) (world.files asked.from)
@@ -167,7 +167,7 @@ module _ (r : Run) (asked : ExtractWords) (unchanged : Unchanged) (world : World
 
   module _ (t : HasTreeFor r.trees asked r.before r.after) (grown : Grows t.middle.calls r.after.shelf.calls)
       (ended : Ended (extract_asked asked t.given t.tree t.left) asked t.middle r.before r.after unchanged.output r.code) where
-    with_these : (o : Option (List WrapKeyValue)) → t.tree.keys ≡ o → IfSome (with_told o (range_with t.given)) (ComesTo r world)
+    with_these : (o : Option (List WrapKeyValue)) → t.tree.keys ≡ o → IfSome (with_told o (range_with t.given)) (RunComesTo r world)
     with_these None told = tt
     with_these (Some keys) told = elim (cases_lt t.left.faults (counted t.tree.faults 1)) [
       | inl stayed ↦ by_file r world of asked t.middle (extract_reader asked t.given keys) unchanged.output same t.files t.has.file.file.faults
@@ -179,7 +179,7 @@ module _ (r : Run) (asked : ExtractWords) (unchanged : Unchanged) (world : World
     with_tree_does : Done
     unfolding extract_effect
     with_tree_does =
-        subst (λ (o : Option Effect). IfSome o (ComesTo r world))
+        subst (λ (o : Option Effect). IfSome o (RunComesTo r world))
         (sym (prepared_taken asked.pairs t.given r.trees world asked.keyring t.has.file.bytes t.tree ranged t.has.given.made (keyring_is t grown) t.has.file.file.few t.has.file.is))
         (with_these t.tree.keys refl)
 

@@ -13,7 +13,7 @@ use Rattle.esdk_base.specs.Streams.{ShelfState}
 use Rattle.context_codec.specs.Context.{KeyValue}
 use Rattle.keyring_trait.specs.Keyring.{KeyringMeaning}
 use Rattle.whole_input.specs.File.{most_file}
-use Rattle.whole_input.specs.FileReads.{AgreesWithCall, AgreesWithRead, Grows, IsReadAs, ReadsWhole, reads_in_row}
+use Rattle.whole_input.specs.FileReads.{AgreesWithCall, AgreesWithRead, Grows, IsReadAs, ReadsWholeFile, reads_in_row}
 use Rattle.whole_input.proofs.Agreeing.{grows_more, grows_none}
 use Rattle.esdk_report.specs.declared.failure.Failure.TheVariants as failures
 use Rattle.esdk_run.specs.Pairs.{context_in}
@@ -110,7 +110,7 @@ part_there files name a b at piece part made calls read =
     is_there (files name) at piece (All-contains (IsOfFiles files) made (reads name at piece) (subst (λ (l : List ShelfCall). All (IsOfFiles files) l) same part.agree) read)
 
 -- a file that was read whole
-part_file : (files : List ℕ → Option (List ℕ)) (name bytes : List ℕ) (a b : List ShelfCall) → IsPart files a b → ReadsWhole name a b bytes → files name ≡ Some bytes
+part_file : (files : List ℕ → Option (List ℕ)) (name bytes : List ℕ) (a b : List ShelfCall) → IsPart files a b → ReadsWholeFile name a b bytes → files name ≡ Some bytes
 part_file files name bytes a b part read =
     let row : List ShelfCall = reads_in_row name 0 (read.pieces ++ [] ∷ []) in
     let made : part.made ≡ row = append_cancel_left a part.made row (sym part.calls ∙ read.calls) in
@@ -123,14 +123,14 @@ part_file files name bytes a b part read =
 
 -- between two moments of the run
 pub file_between : (files : List ℕ → Option (List ℕ)) (name bytes : List ℕ) (old new : ShelfState) (a b : List ShelfCall) → FilesAre old new files → Grows old.calls a → Grows b new.calls
-    → ReadsWhole name a b bytes → files name ≡ Some bytes
+    → ReadsWholeFile name a b bytes → files name ≡ Some bytes
 file_between files name bytes old new a b are before behind read =
     let row : Grows a b = (reads_in_row name 0 (read.pieces ++ [] ∷ []), read.calls) in
     let last : IsPart files a new.calls = part_second files old.calls a new.calls (part_all files old new are) before (grows_more a b new.calls row behind) in
     part_file files name bytes a b (part_first files a b new.calls last row behind) read
 
 -- in all of the run
-pub whole_file : (files : List ℕ → Option (List ℕ)) (name bytes : List ℕ) (old new : ShelfState) → FilesAre old new files → ReadsWhole name old.calls new.calls bytes → files name ≡ Some bytes
+pub whole_file : (files : List ℕ → Option (List ℕ)) (name bytes : List ℕ) (old new : ShelfState) → FilesAre old new files → ReadsWholeFile name old.calls new.calls bytes → files name ≡ Some bytes
 whole_file files name bytes old new are read = file_between files name bytes old new old.calls new.calls are (grows_none old.calls) (grows_none new.calls) read
 
 -- ---- what the program does with it

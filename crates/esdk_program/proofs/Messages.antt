@@ -8,8 +8,8 @@ use Rattle.esdk_fields.specs.Reading.{Reading, Read, Refused, Wanting}
 use Rattle.esdk_fields.proofs.Fronts.{fault_stays, value_stays}
 use Rattle.esdk_seen.specs.Calls.{ShelfCall, reads}
 use Rattle.context_codec.specs.Context.{KeyValue}
-use Rattle.header_codec.specs.Header.{HeaderValue}
-use Rattle.header_codec.specs.Table.{Head, header, opening}
+use Rattle.header_codec.specs.Header.{HeaderValue, no_limits}
+use Rattle.header_codec.specs.Table.{HeaderFields, header, opening}
 use Rattle.header_codec.proofs.Order.{IsSequential-header}
 use Rattle.keyring_trait.specs.Wrapping.{WrapKeyValue}
 use Rattle.job_file.specs.declared.audit.AuditMessage.{AuditMessage}
@@ -17,13 +17,13 @@ use Rattle.message_format.proofs.Following.{header_stays}
 use Rattle.whole_input.specs.FileReads.{Grows, ReadsRow, SeesEnd, reads_in_row}
 use Rattle.whole_input.proofs.Agreeing.{end_read, grows_more, row_read}
 use Rattle.audit_core.specs.MessageFiles.{HaveCome}
-use Rattle.audit_core.specs.Messages.{Message, audited, audited_header, audited_reading, no_limits}
+use Rattle.audit_core.specs.Messages.{Message, audited, audited_header, audited_reading}
 use Rattle.esdk_program.specs.Program.{messages_in, with_message}
 use Rattle.esdk_program.proofs.Files.{IsPart, part_first, part_read, part_second, part_there}
 
 -- ---- a message
 
-audited_is : (leaves : List (List WrapKeyValue)) (m : Message) (h : Reading Head) → header no_limits (start m.bytes) ≡ h → audited leaves m ≡ audited_reading leaves m h
+audited_is : (leaves : List (List WrapKeyValue)) (m : Message) (h : Reading HeaderFields) → header no_limits (start m.bytes) ≡ h → audited leaves m ≡ audited_reading leaves m h
 unfolding audited
 audited_is leaves m h is = ap (audited_reading leaves m) is
 
@@ -31,7 +31,7 @@ abbrev message : List ℕ → List KeyValue → Message
 message bytes given = record { bytes = bytes; given = given }
 
 -- bytes that go on behind a header, or behind its fault
-audited_on : (leaves : List (List WrapKeyValue)) (bytes more : List ℕ) (given : List KeyValue) (h : Reading Head) → header no_limits (start bytes) ≡ h → (h ≡ Wanting → bytes ++ more ≡ bytes)
+audited_on : (leaves : List (List WrapKeyValue)) (bytes more : List ℕ) (given : List KeyValue) (h : Reading HeaderFields) → header no_limits (start bytes) ≡ h → (h ≡ Wanting → bytes ++ more ≡ bytes)
     → audited leaves (message bytes given) ≡ audited leaves (message (bytes ++ more) given)
 audited_on leaves bytes more given (Read parts p) is all =
     audited_is leaves (message bytes given) (Read parts p) is

@@ -12,8 +12,8 @@ use Rattle.esdk_report.specs.declared.failure.Failure.TheVariants as failures
 use Rattle.esdk_run.specs.Migrate.{IsMigrated, MigrateFails, value_asked}
 use Rattle.esdk_run.specs.Objects.{Unchanged}
 use Rattle.esdk_run.specs.Run.{MigrateRuns}
-use Rattle.esdk_program.specs.Effect.{ComesTo, Effect, done_with}
-use Rattle.esdk_program.specs.Program.{migrate_effect, with_value}
+use Rattle.esdk_program.specs.Effect.{RunComesTo, Effect, done_with}
+use Rattle.esdk_program.specs.Program.{migrate_effect, with_value_read}
 use Rattle.esdk_program.specs.World.{IsOf, Run, World}
 use Rattle.esdk_program.proofs.Ends.{at_some, gains_none, stops}
 use Rattle.esdk_program.proofs.Files.{file_taken, whole_file}
@@ -21,10 +21,10 @@ use Rattle.esdk_program.proofs.Trees.{behind_none, file_fails}
 
 module _ (r : Run) (asked : MigrateWords) (unchanged : Unchanged) (world : World) (of : IsOf r world) (same : unchanged.output → r.after.output ≡ r.before.output) where
   abbrev Done : Type 0
-  Done = IfSome (migrate_effect asked world) (ComesTo r world)
+  Done = IfSome (migrate_effect asked world) (RunComesTo r world)
 
   abbrev go_on : Result Data FileRefusal → Option Effect
-  go_on read = with_value read (λ value. Some (done_with (compact_text value ++ 10 ∷ []) []))
+  go_on read = with_value_read read (λ value. Some (done_with (compact_text value ++ 10 ∷ []) []))
 
   -- the text of the file in version 2
   migrated_is : (text : List ℕ) → IsMigrated asked r.before.shelf r.after.shelf text → migrate_effect asked world ≡ Some (done_with text [])
@@ -38,12 +38,12 @@ module _ (r : Run) (asked : MigrateWords) (unchanged : Unchanged) (world : World
       → Reports failure r.code r.before.report r.after.report → Done
   unfolding migrate_effect
   fails_does (failures.Outside outsides.SinkFault) fails said =
-      at_some (migrate_effect asked world) (done_with fails.text []) (ComesTo r world) (migrated_is fails.text fails.is)
+      at_some (migrate_effect asked world) (done_with fails.text []) (RunComesTo r world) (migrated_is fails.text fails.is)
       (stops r world (done_with fails.text []) (failures.Outside outsides.SinkFault) fails.failed.rose said fails.failed.front)
   fails_does failure fails said = file_fails r world of r.before.shelf (behind_none r) (value_asked asked) (λ bytes. go_on) asked.keyring (λ bytes refusal. refl) failure fails.0 said (same fails.1)
 
   pub migrate_does : MigrateRuns asked r.before r.after unchanged r.code → Done
   migrate_does (inl (done, writes)) =
-      at_some (migrate_effect asked world) (done_with writes.text []) (ComesTo r world) (migrated_is writes.text writes.is)
+      at_some (migrate_effect asked world) (done_with writes.text []) (RunComesTo r world) (migrated_is writes.text writes.is)
       (inl (record { code = done.status; output = writes.gained; report = gains_none r.before.report r.after.report done.same }))
   migrate_does (inr fails) = fails_does fails.failure fails.because fails.said

@@ -23,8 +23,8 @@ use Rattle.esdk_report.specs.Report.{IsReported, Reports, context_line}
 use Rattle.esdk_report.specs.declared.failure.Failure.{Failure}
 use Rattle.esdk_report.specs.declared.failure.Failure.TheVariants as failures
 use Rattle.esdk_run.specs.Run.{TellsOrLacksMemory}
-use Rattle.esdk_program.specs.Effect.{ComesTo, Effect, HasFailed, done_with, refused}
-use Rattle.esdk_program.specs.Program.{failure_at, opened_as, opened_with, whole_in}
+use Rattle.esdk_program.specs.Effect.{RunComesTo, Effect, RunFailed, done_with, refused}
+use Rattle.esdk_program.specs.Program.{failure_at, opened_effect, judged_effect, context_found}
 use Rattle.esdk_program.specs.World.{Run, World}
 use Rattle.esdk_program.proofs.Ends.{front_all, front_of, refuses, stops, tells}
 
@@ -74,39 +74,39 @@ bad_named (verdicts.Faulty fault) number sound = absurd (cc sound)
 
 -- ---- the effect
 
-opened_output : (text : List ℕ) (answer : Unlocking) (failure : Option Failure) → text ≡ (opened_as text answer failure).output
+opened_output : (text : List ℕ) (answer : Unlocking) (failure : Option Failure) → text ≡ (opened_effect text answer failure).output
 opened_output text answer None = refl
 opened_output text answer (Some failure) = refl
 
 pub whole_is : (reader : Reader) (o : Outlook) (bytes : List ℕ) (context : List KeyValue) → o.bytes ≡ bytes → o.end ≡ ends.Whole → (judged_by reader bytes).verdict ≡ verdicts.Whole
-    → HasContext (unlocks reader bytes) context → opened_with reader o ≡ done_with (content (judged_by reader bytes)) (context_line context)
+    → HasContext (unlocks reader bytes) context → judged_effect reader o ≡ done_with (content (judged_by reader bytes)) (context_line context)
 whole_is reader o bytes context all end whole has =
-    (λ i. opened_as (content (judged_by reader (all i))) (unlocks reader (all i)) (failure_at (judged_by reader (all i)).verdict (end i)))
-    ∙ ap (λ (v : Verdict). opened_as (content (judged_by reader bytes)) (unlocks reader bytes) (failure_at v ends.Whole)) whole
-    ∙ ap (λ (a : Unlocking). done_with (content (judged_by reader bytes)) (context_line (whole_in a))) has.2
+    (λ i. opened_effect (content (judged_by reader (all i))) (unlocks reader (all i)) (failure_at (judged_by reader (all i)).verdict (end i)))
+    ∙ ap (λ (v : Verdict). opened_effect (content (judged_by reader bytes)) (unlocks reader bytes) (failure_at v ends.Whole)) whole
+    ∙ ap (λ (a : Unlocking). done_with (content (judged_by reader bytes)) (context_line (context_found a))) has.2
 
 fault_is : (reader : Reader) (o : Outlook) (j : Judged) (fault : Fault) → judged_by reader o.bytes ≡ j → failure_at j.verdict o.end ≡ Some (failures.Fault fault)
-    → opened_with reader o ≡ refused (content j) (failures.Fault fault)
+    → judged_effect reader o ≡ refused (content j) (failures.Fault fault)
 fault_is reader o j fault same cause =
-    ap (λ (x : Judged). opened_as (content x) (unlocks reader o.bytes) (failure_at x.verdict o.end)) same
-    ∙ ap (λ (f : Option Failure). opened_as (content j) (unlocks reader o.bytes) f) cause
+    ap (λ (x : Judged). opened_effect (content x) (unlocks reader o.bytes) (failure_at x.verdict o.end)) same
+    ∙ ap (λ (f : Option Failure). opened_effect (content j) (unlocks reader o.bytes) f) cause
 
 -- ---- what the run came to
 
 module _ (r : Run) (world : World) (reader : Reader) (o : Outlook) where
   abbrev Opened : Type 0
-  Opened = ComesTo r world (opened_with reader o)
+  Opened = RunComesTo r world (judged_effect reader o)
 
   pub opens_whole : (bytes : List ℕ) (context : List KeyValue) → o.bytes ≡ bytes → o.end ≡ ends.Whole → (judged_by reader bytes).verdict ≡ verdicts.Whole
       → HasContext (unlocks reader bytes) context → Appends r.before.output.written r.after.output.written (content (judged_by reader bytes))
       → TellsOrLacksMemory context r.code r.before.report r.after.report → Opened
   opens_whole bytes context all end whole has gained told =
-      subst (λ (e : Effect). ComesTo r world e) (sym (whole_is reader o bytes context all end whole has)) (tells r world (content (judged_by reader bytes)) context gained told)
+      subst (λ (e : Effect). RunComesTo r world e) (sym (whole_is reader o bytes context all end whole has)) (tells r world (content (judged_by reader bytes)) context gained told)
 
   pub opens_faulty : (j : Judged) (fault : Fault) → judged_by reader o.bytes ≡ j → failure_at j.verdict o.end ≡ Some (failures.Fault fault)
       → Appends r.before.output.written r.after.output.written (content j) → Reports (failures.Fault fault) r.code r.before.report r.after.report → Opened
   opens_faulty j fault same cause gained said =
-      subst (λ (e : Effect). ComesTo r world e) (sym (fault_is reader o j fault same cause)) (refuses r world (content j) (failures.Fault fault) gained said)
+      subst (λ (e : Effect). RunComesTo r world e) (sym (fault_is reader o j fault same cause)) (refuses r world (content j) (failures.Fault fault) gained said)
 
   -- a fault of the bytes that came
   pub opens_early : (bytes more : List ℕ) (fault : Fault) → o.bytes ≡ bytes ++ more → fault_of (judged_by reader bytes).verdict ≡ Some fault
@@ -115,16 +115,16 @@ module _ (r : Run) (world : World) (reader : Reader) (o : Outlook) where
       opens_faulty (judged_by reader bytes) fault (fault_same reader o.bytes bytes more fault is e) (early_named (judged_by reader bytes).verdict o.end fault e) gained said
 
   -- a front of what they release, or of what bytes release that come before more
-  pub opens_front : (bytes more : List ℕ) (failure : Failure) → o.bytes ≡ bytes ++ more → HasFailed r world failure → IsReported failure r.code r.before.report r.after.report
+  pub opens_front : (bytes more : List ℕ) (failure : Failure) → o.bytes ≡ bytes ++ more → RunFailed r world failure → IsReported failure r.code r.before.report r.after.report
       → AppendsFront r.before.output.written r.after.output.written (content (judged_by reader bytes)) → Opened
   opens_front bytes more failure is why said front =
       let rest = content_more reader o.bytes bytes more is in
-      stops r world (opened_with reader o) failure why said
+      stops r world (judged_effect reader o) failure why said
       (subst (λ (t : List ℕ). AppendsFront r.before.output.written r.after.output.written t)
       (opened_output (content (judged_by reader o.bytes)) (unlocks reader o.bytes) (failure_at (judged_by reader o.bytes).verdict o.end))
       (front_of r.before.output.written r.after.output.written (content (judged_by reader bytes)) rest.0 (content (judged_by reader o.bytes)) rest.1 front))
 
-  pub opens_some : (bytes more : List ℕ) (failure : Failure) → o.bytes ≡ bytes ++ more → HasFailed r world failure → IsReported failure r.code r.before.report r.after.report
+  pub opens_some : (bytes more : List ℕ) (failure : Failure) → o.bytes ≡ bytes ++ more → RunFailed r world failure → IsReported failure r.code r.before.report r.after.report
       → Appends r.before.output.written r.after.output.written (content (judged_by reader bytes)) → Opened
   opens_some bytes more failure is why said gained =
       opens_front bytes more failure is why said (front_all r.before.output.written r.after.output.written (content (judged_by reader bytes)) gained)

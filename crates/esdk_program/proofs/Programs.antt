@@ -17,7 +17,7 @@ use Rattle.esdk_run.specs.Objects.{Objects, Unchanged, without_entropy}
 use Rattle.esdk_run.specs.Promises.{Promises, Ticks, Words}
 use Rattle.esdk_run.specs.Run.{GenRuns, RefusesWords, RunsAs}
 use Rattle.esdk_run.specs.Trees.{Trees}
-use Rattle.esdk_program.specs.Effect.{ComesTo, done_with, refused}
+use Rattle.esdk_program.specs.Effect.{RunComesTo, done_with, refused}
 use Rattle.esdk_program.specs.Program.{Does, effect_of}
 use Rattle.esdk_program.specs.World.{Run, World, run_of}
 use Rattle.esdk_program.proofs.Auditing.{audit_does}
@@ -33,19 +33,19 @@ use Rattle.esdk_program.proofs.Ends.{gains_none, refuses, same_front, same_none,
 
 module _ (r : Run) (world : World) (unchanged : Unchanged) (same : unchanged.output → r.after.output ≡ r.before.output) where
   gen_fails : (seed size : ℕ) (failure : Failure) → GenFails seed size r.before.output r.after.output unchanged.output failure → Reports failure r.code r.before.report r.after.report
-      → ComesTo r world (done_with (gen_line seed size) [])
+      → RunComesTo r world (done_with (gen_line seed size) [])
   gen_fails seed size (failures.Outside outsides.SinkFault) fails said = stops r world (done_with (gen_line seed size) []) (failures.Outside outsides.SinkFault) fails.rose said fails.front
   gen_fails seed size failures.Memory fails said =
       stops r world (done_with (gen_line seed size) []) failures.Memory tt said (same_front r.before.output r.after.output (gen_line seed size) (same fails))
   gen_fails seed size failure fails said = absurd fails
 
-  gen_does : (seed size : ℕ) → GenRuns seed size r.before r.after unchanged r.code → ComesTo r world (done_with (gen_line seed size) [])
+  gen_does : (seed size : ℕ) → GenRuns seed size r.before r.after unchanged r.code → RunComesTo r world (done_with (gen_line seed size) [])
   gen_does seed size (inl (done, line)) = inl (record { code = done.status; output = line; report = gains_none r.before.report r.after.report done.same })
   gen_does seed size (inr fails) = gen_fails seed size fails.failure fails.because fails.said
 
   -- ---- words that are refused
 
-  words_do : (fault : WordsFault) → r.after.output ≡ r.before.output → RefusesWords fault r.code r.before.report r.after.report → ComesTo r world (refused [] (words_failure fault))
+  words_do : (fault : WordsFault) → r.after.output ≡ r.before.output → RefusesWords fault r.code r.before.report r.after.report → RunComesTo r world (refused [] (words_failure fault))
   words_do fault still (inl said) = refuses r world [] (words_failure fault) (same_none r.before.output r.after.output still) said
   words_do fault still (inr said) =
       stops r world (refused [] (words_failure fault)) failures.Memory tt said (same_front r.before.output r.after.output [] still)

@@ -13,7 +13,7 @@ use Rattle.keyring_trait.specs.Keyring.{KeyringMeaning}
 use Rattle.keyring_trait.specs.Wrapping.{WrapKeyValue, active}
 use Rattle.whole_input.specs.FileReads.{Grows, reads_in_row}
 use Rattle.whole_input.proofs.Agreeing.{grows_none}
-use Rattle.esdk_encrypt.specs.Encrypt.{Drew, draws}
+use Rattle.esdk_encrypt.specs.Encrypt.{Drew, drawn_count}
 use Rattle.esdk_decrypt.specs.Told.{Reader, answering_by}
 use Rattle.reseal_core.specs.declared.errors.InputError.{InputError}
 use Rattle.reseal_core.specs.declared.errors.InputError.TheVariants as errors
@@ -27,14 +27,14 @@ use Rattle.esdk_run.specs.Failures.{resealing_failure}
 use Rattle.esdk_run.specs.Giving.{refusal_over}
 use Rattle.esdk_run.specs.Objects.{Unchanged, same_streams}
 use Rattle.esdk_run.specs.Pairs.{required_in}
-use Rattle.esdk_run.specs.Reseal.{HasFirst, HasNoSecond, HasSecond, ResealFails, ResealingFails, limits_of, reseal_asked, untouched}
+use Rattle.esdk_run.specs.Reseal.{HasFirst, HasNoSecond, HasSecond, ResealFails, ResealingFails, reseal_settings, reseal_asked, untouched}
 use Rattle.esdk_run.specs.ResealTold.{reseal_reader, reseal_writer}
 use Rattle.esdk_run.specs.Run.{ResealRuns, TellsOrLacksMemory}
 use Rattle.esdk_run.specs.Trees.{IsLawful}
 use Rattle.esdk_run.proofs.Keys.{keys_allow, keys_wrap, materials_told}
 use Rattle.esdk_run.proofs.Resealing.{tree_giving}
-use Rattle.esdk_program.specs.Effect.{ComesTo, Effect, KeyringFailed}
-use Rattle.esdk_program.specs.Program.{reseal_effect, resealed_by, with_both, with_read, with_tree}
+use Rattle.esdk_program.specs.Effect.{RunComesTo, Effect, KeyringFailed}
+use Rattle.esdk_program.specs.Program.{reseal_effect, resealed_by, with_both_keys, with_read, with_tree}
 use Rattle.esdk_program.specs.World.{IsOf, Run, World}
 use Rattle.esdk_program.proofs.Ends.{stops_unwritten}
 use Rattle.esdk_program.proofs.Files.{file_between, prepared_taken, tree_taken}
@@ -59,16 +59,16 @@ keys_give reader second others size lawful told = record {
 module _ (r : Run) (asked : ResealWords) (unchanged : Unchanged) (world : World) (of : IsOf r world) (same : unchanged.output → r.after.output ≡ r.before.output)
     (is_reseal : r.words ≡ Ok (requests.Reseal asked)) (wide : 1 ≤ asked.frame) where
   abbrev Done : Type 0
-  Done = IfSome (reseal_effect asked r.trees world) (ComesTo r world)
+  Done = IfSome (reseal_effect asked r.trees world) (RunComesTo r world)
 
   abbrev drawn_of : List WrapKeyValue → List ℕ
-  drawn_of others = take (draws (length (active others))) world.random
+  drawn_of others = take (drawn_count (length (active others))) world.random
 
   abbrev resealed_so : List KeyValue → KeyringMeaning → List WrapKeyValue → List WrapKeyValue → Effect
   resealed_so given second keys others = resealed_by (reseal_reader asked given keys) second (reseal_writer asked others) (drawn_of others) world.input
 
   abbrev both_so : List KeyValue → KeyringMeaning → KeyringMeaning → Option Effect
-  both_so given tree second = with_both tree.keys second.keys (resealed_so given second)
+  both_so given tree second = with_both_keys tree.keys second.keys (resealed_so given second)
 
   abbrev all_so : List KeyValue → KeyringMeaning → Option Effect
   all_so given tree = with_tree r.trees.plain world asked.to_keyring (both_so given tree)
@@ -102,8 +102,8 @@ module _ (r : Run) (asked : ResealWords) (unchanged : Unchanged) (world : World)
     by_keys told stayed lawful second_told (inl (context, (done, shown))) = inl (
       context,
       (
-        input_more (record { finds = TreeFinds (required_in asked.pairs) tree left; finds_none = TreeFindsNone (required_in asked.pairs) tree left }) (answering_by reader) (limits_of asked) given
-            (tree_giving second) (giving reader second others asked.frame) asked.frame (keys_allow (limits_of asked) given (required_in asked.pairs) tree left keys told stayed)
+        input_more (record { finds = TreeFinds (required_in asked.pairs) tree left; finds_none = TreeFindsNone (required_in asked.pairs) tree left }) (answering_by reader) (reseal_settings asked) given
+            (tree_giving second) (giving reader second others asked.frame) asked.frame (keys_allow (reseal_settings asked) given (required_in asked.pairs) tree left keys told stayed)
             (keys_give reader second others asked.frame lawful second_told) r.before.input r.after.input r.before.output r.after.output r.before.entropy r.after.entropy context done,
         shown,
       ),
@@ -111,8 +111,8 @@ module _ (r : Run) (asked : ResealWords) (unchanged : Unchanged) (world : World)
     by_keys told stayed lawful second_told (inr (error, (ends, said))) = inr (
       error,
       (
-        stops_more (record { finds = TreeFinds (required_in asked.pairs) tree left; finds_none = TreeFindsNone (required_in asked.pairs) tree left }) (answering_by reader) (limits_of asked) given
-            (tree_giving second) (giving reader second others asked.frame) asked.frame (keys_allow (limits_of asked) given (required_in asked.pairs) tree left keys told stayed)
+        stops_more (record { finds = TreeFinds (required_in asked.pairs) tree left; finds_none = TreeFindsNone (required_in asked.pairs) tree left }) (answering_by reader) (reseal_settings asked) given
+            (tree_giving second) (giving reader second others asked.frame) asked.frame (keys_allow (reseal_settings asked) given (required_in asked.pairs) tree left keys told stayed)
             (keys_give reader second others asked.frame lawful second_told) r.before.input r.after.input r.before.output r.after.output r.before.entropy r.after.entropy
             (same_streams unchanged) unasked error ends,
         said,
@@ -120,12 +120,12 @@ module _ (r : Run) (asked : ResealWords) (unchanged : Unchanged) (world : World)
     )
 
     abbrev So : Type 0
-    So = ComesTo r world (resealed_so given second keys others)
+    So = RunComesTo r world (resealed_so given second keys others)
 
     with_drawn : (drawn : List ℕ) → Drew (length (active others)) r.before.entropy r.after.entropy drawn
-        → ComesTo r world (resealed_by reader second (reseal_writer asked others) drawn world.input) → So
+        → RunComesTo r world (resealed_by reader second (reseal_writer asked others) drawn world.input) → So
     with_drawn drawn drew so =
-        subst (λ (d : List ℕ). ComesTo r world (resealed_by reader second (reseal_writer asked others) d world.input)) (sym (drawn_is others drawn drew)) so
+        subst (λ (d : List ℕ). RunComesTo r world (resealed_by reader second (reseal_writer asked others) d world.input)) (sym (drawn_is others drawn drew)) so
 
     ended_so : Ended run unasked → So
     ended_so (inl (context, (done, shown))) =
@@ -177,7 +177,7 @@ module _ (r : Run) (asked : ResealWords) (unchanged : Unchanged) (world : World)
         rose = rose;
       }
 
-      with_told : (o : Option (List WrapKeyValue)) → tree.keys ≡ o → IfSome (with_both o (Some sealing.keys) (resealed_so given second)) (ComesTo r world)
+      with_told : (o : Option (List WrapKeyValue)) → tree.keys ≡ o → IfSome (with_both_keys o (Some sealing.keys) (resealed_so given second)) (RunComesTo r world)
       with_told None told = tt
       with_told (Some keys) told = elim (cases_lt left.faults (counted tree.faults 1)) [
         | inl stayed ↦ ended_so given tree left second keys sealing.keys unasked
@@ -187,12 +187,12 @@ module _ (r : Run) (asked : ResealWords) (unchanged : Unchanged) (world : World)
 
       both_do : Done
       both_do =
-          subst (λ (o : Option Effect). IfSome o (ComesTo r world))
+          subst (λ (o : Option Effect). IfSome o (RunComesTo r world))
           (sym (first_taken (first_holds grown)
           ∙ tree_taken r.trees.plain world asked.to_keyring sealing.file.bytes second (both_so given tree)
           (file_between world.files asked.to_keyring sealing.file.bytes r.before.shelf r.after.shelf between.calls r.after.shelf.calls of.files is_behind.grown
           (grows_none r.after.shelf.calls) sealing.file.file.read) sealing.file.file.few sealing.file.is
-          ∙ ap (λ (o : Option (List WrapKeyValue)). with_both tree.keys o (resealed_so given second)) sealing.told))
+          ∙ ap (λ (o : Option (List WrapKeyValue)). with_both_keys tree.keys o (resealed_so given second)) sealing.told))
           (with_told tree.keys refl)
 
   -- ---- the second wasn't

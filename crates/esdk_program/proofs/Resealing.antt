@@ -18,19 +18,18 @@ use Rattle.keyring_trait.specs.Unlocking.{Unlocking, Refuses, Unlocks}
 use Rattle.keyring_trait.specs.Wrapping.{WrapKeyValue, active}
 use Rattle.body_format.specs.declared.verdicts.Verdict.{Verdict}
 use Rattle.message_format.specs.Judgement.{Judged, content, judged}
-use Rattle.stream_seal.specs.Start.{message_of, most_text, start_refusal}
+use Rattle.stream_seal.specs.Start.{message_of, most_text, start_refusal, drawn_id, drawn_rest}
 use Rattle.armour_core.specs.declared.text_end.TextEnd.TheVariants as ends
 use Rattle.whole_input.proofs.Fronts.{front_beyond}
-use Rattle.esdk_encrypt.specs.Encrypt.{drawn_id, drawn_rest, written_so_far}
+use Rattle.esdk_encrypt.specs.Encrypt.{written_so_far}
 use Rattle.esdk_encrypt.specs.Gaining.{as_bytes}
-use Rattle.esdk_encrypt.specs.Told.{Writer, materials_of, message_by}
+use Rattle.esdk_encrypt.specs.Told.{Writer, drawn_materials, message_by}
 use Rattle.esdk_decrypt.specs.Decrypt.{AnswersTo, fault_of}
-use Rattle.esdk_decrypt.specs.Told.{Reader, answering_by, asked_by, judged_by}
+use Rattle.esdk_decrypt.specs.Told.{Reader, answering_by, decrypting_by, judged_by, unlocked_to}
 use Rattle.esdk_decrypt.proofs.Readers.{answers_unlocking, judged_reader, never_fails}
 use Rattle.reseal_core.specs.declared.errors.InputError.{InputError}
 use Rattle.reseal_core.specs.declared.errors.InputError.TheVariants as errors
-use Rattle.reseal_core.specs.Laws.{unlocked_to}
-use Rattle.reseal_core.specs.Reseal.{EndsSo, FinalFails, FrontFails, HasFault, HasMaterials, RefusesMessage, Resealing, Reseals, WritesBy, WritesFront}
+use Rattle.reseal_core.specs.Reseal.{ResealEndsSo, ResealFinalFails, FrontFails, ResealFindsFault, HasMaterials, RefusesMessage, Resealing, Reseals, WritesBy, ResealWritesFront}
 use Rattle.esdk_report.specs.Report.{IsReported, Reports}
 use Rattle.esdk_report.specs.declared.failure.Failure.{Failure}
 use Rattle.esdk_report.specs.declared.failure.Failure.TheVariants as failures
@@ -40,8 +39,8 @@ use Rattle.esdk_run.specs.Reseal.{TreeSealsNone}
 use Rattle.esdk_run.specs.ResealTold.{reseal_writer}
 use Rattle.esdk_run.specs.Run.{TellsOrLacksMemory}
 use Rattle.esdk_run.proofs.ArmouredMessage.{forms_keep_fronts}
-use Rattle.esdk_program.specs.Effect.{ComesTo, Effect, HasFailed}
-use Rattle.esdk_program.specs.Program.{begun_by, failure_at, opened_as, resealed, resealed_by, resealed_end, resealed_text, resealed_with, unless_refused}
+use Rattle.esdk_program.specs.Effect.{RunComesTo, Effect, RunFailed}
+use Rattle.esdk_program.specs.Program.{begun_by, failure_at, opened_effect, resealed_effect, resealed_by, resealed_end, resealed_text, resealed_with, effect_unless}
 use Rattle.esdk_program.specs.World.{IsOf, Run, World}
 use Rattle.esdk_program.proofs.Came.{begins_input, is_all, is_few}
 use Rattle.esdk_program.proofs.Ends.{front_all, refuses, stops, tells}
@@ -52,10 +51,10 @@ use Rattle.esdk_program.proofs.Unlocked.{refused_locked, stays_unlocked, unlocke
 -- what the second tree's keys give, of a request that it doesn't refuse
 abbrev pub over_keys : Reader → KeyringMeaning → List WrapKeyValue → ℕ → Resealing
 over_keys reader second others size = record {
-  opening = asked_by reader;
+  opening = decrypting_by reader;
   wraps = length (active others);
   gives = λ request random m. (refusal_over request.context second ≡ None)
-      × (m ≡ materials_of (record { keys = others; context = request.context; required = request.required; size = size; max_keys = None }) random);
+      × (m ≡ drawn_materials (record { keys = others; context = request.context; required = request.required; size = size; max_keys = None }) random);
   gives_none = TreeSealsNone second;
   size = size;
 }
@@ -69,7 +68,7 @@ module _ (r : Run) (world : World) (of : IsOf r world) (reader : Reader) (second
   writer whole only = reseal_writer asked others whole only
 
   abbrev made : List KeyValue → List KeyValue → EncMaterialsValue
-  made whole only = materials_of (writer whole only) (drawn_rest drawn)
+  made whole only = drawn_materials (writer whole only) (drawn_rest drawn)
 
   abbrev j : Judged
   j = judged_by reader world.input
@@ -84,7 +83,7 @@ module _ (r : Run) (world : World) (of : IsOf r world) (reader : Reader) (second
   effect = resealed_by reader second writer drawn world.input
 
   abbrev So : Type 0
-  So = ComesTo r world effect
+  So = RunComesTo r world effect
 
   abbrev Front : List ℕ → Type 0
   Front text = AppendsFront r.before.output.written r.after.output.written text
@@ -97,8 +96,8 @@ module _ (r : Run) (world : World) (of : IsOf r world) (reader : Reader) (second
     answer : unlocked_to reader world.input ≡ Unlocks whole only key
 
   open_is : (whole only : List KeyValue) (key : List ℕ) → IsOpen whole only key
-      → effect ≡ unless_refused (refusal_over whole second) (resealed_with (writer whole only) drawn (content j) whole end)
-  open_is whole only key is = λ i. resealed second writer drawn j (is.unlocked i) (is.answer i)
+      → effect ≡ effect_unless (refusal_over whole second) (resealed_with (writer whole only) drawn (content j) whole end)
+  open_is whole only key is = λ i. resealed_effect second writer drawn j (is.unlocked i) (is.answer i)
 
   begun_is : (whole only : List KeyValue) (key : List ℕ) (m : EncMaterialsValue) → IsOpen whole only key → HasMaterials run drawn whole only m
       → effect ≡ resealed_text (writer whole only) drawn (content j) whole end fits
@@ -106,11 +105,11 @@ module _ (r : Run) (world : World) (of : IsOf r world) (reader : Reader) (second
       let begins : start_refusal (made whole only) None (drawn_id drawn) ≡ None =
       subst (λ (x : EncMaterialsValue). start_refusal x None (drawn_id drawn) ≡ None) has.given.1 has.begins in
       open_is whole only key is
-      ∙ ap (λ (o : Option Refusal). unless_refused o (resealed_with (writer whole only) drawn (content j) whole end)) has.given.0
-      ∙ ap (λ (o : Option Refusal). unless_refused o (resealed_text (writer whole only) drawn (content j) whole end fits)) begins
+      ∙ ap (λ (o : Option Refusal). effect_unless o (resealed_with (writer whole only) drawn (content j) whole end)) has.given.0
+      ∙ ap (λ (o : Option Refusal). effect_unless o (resealed_text (writer whole only) drawn (content j) whole end fits)) begins
 
-  locked_is : j.unlocked ≡ false → effect ≡ opened_as [] (unlocked_to reader world.input) end
-  locked_is is = ap (λ (b : Bool). resealed second writer drawn j b (unlocked_to reader world.input)) is
+  locked_is : j.unlocked ≡ false → effect ≡ opened_effect [] (unlocked_to reader world.input) end
+  locked_is is = ap (λ (b : Bool). resealed_effect second writer drawn j b (unlocked_to reader world.input)) is
 
   -- ---- bytes that come first
 
@@ -141,11 +140,11 @@ module _ (r : Run) (world : World) (of : IsOf r world) (reader : Reader) (second
       → Front (begun_by w drawn text) → Front (resealed_end w drawn text context e).output
   end_front w text context (Some failure) some front = front
   end_front w text context None some front =
-      front_whole as_bytes (forms_keep_fronts false) (materials_of w (drawn_rest drawn)) w.size (drawn_id drawn) some r.before.output.written r.after.output.written text front
+      front_whole as_bytes (forms_keep_fronts false) (drawn_materials w (drawn_rest drawn)) w.size (drawn_id drawn) some r.before.output.written r.after.output.written text front
 
-  fits_front : (whole only : List KeyValue) (failure : Failure) → HasFailed r world failure → IsReported failure r.code r.before.report r.after.report
+  fits_front : (whole only : List KeyValue) (failure : Failure) → RunFailed r world failure → IsReported failure r.code r.before.report r.after.report
       → (b : Bool) → fits ≡ b → Front (begun_by (writer whole only) drawn (take (most_text asked.frame) (content j)))
-      → ComesTo r world (resealed_text (writer whole only) drawn (content j) whole end b)
+      → RunComesTo r world (resealed_text (writer whole only) drawn (content j) whole end b)
   fits_front whole only failure why said false is front = stops r world (resealed_text (writer whole only) drawn (content j) whole end false) failure why said front
   fits_front whole only failure why said true is front =
       stops r world (resealed_end (writer whole only) drawn (content j) whole end) failure why said
@@ -153,17 +152,17 @@ module _ (r : Run) (world : World) (of : IsOf r world) (reader : Reader) (second
       (subst (λ (t : List ℕ). Front (begun_by (writer whole only) drawn t)) (take_all (most_text asked.frame) (content j) (leb-true (length (content j)) (most_text asked.frame) is)) front))
 
   left : (whole only : List KeyValue) (key : List ℕ) (m : EncMaterialsValue) → IsOpen whole only key → HasMaterials run drawn whole only m
-      → (failure : Failure) → HasFailed r world failure → IsReported failure r.code r.before.report r.after.report → (text more : List ℕ) → content j ≡ text ++ more
+      → (failure : Failure) → RunFailed r world failure → IsReported failure r.code r.before.report r.after.report → (text more : List ℕ) → content j ≡ text ++ more
       → length text ≤ most_text asked.frame → Front (written_so_far m asked.frame (drawn_id drawn) text) → So
   left whole only key m is has failure why said text more all short front =
-      subst (λ (x : Effect). ComesTo r world x) (sym (begun_is whole only key m is has))
+      subst (λ (x : Effect). RunComesTo r world x) (sym (begun_is whole only key m is has))
       (fits_front whole only failure why said fits refl
       (subst (λ (t : List ℕ). Front (begun_by (writer whole only) drawn (take (most_text asked.frame) t))) (sym all)
       (front_on as_bytes (forms_keep_fronts false) (made whole only) asked.frame (drawn_id drawn) wide r.before.output.written r.after.output.written text more short
       (subst (λ (x : EncMaterialsValue). Front (written_so_far x asked.frame (drawn_id drawn) text)) has.given.1 front))))
 
   -- nothing was written
-  none_left : (failure : Failure) → HasFailed r world failure → IsReported failure r.code r.before.report r.after.report → Appends r.before.output.written r.after.output.written [] → So
+  none_left : (failure : Failure) → RunFailed r world failure → IsReported failure r.code r.before.report r.after.report → Appends r.before.output.written r.after.output.written [] → So
   none_left failure why said none = stops r world effect failure why said (0, none)
 
   -- ---- the whole message
@@ -184,7 +183,7 @@ module _ (r : Run) (world : World) (of : IsOf r world) (reader : Reader) (second
       subst (λ (x : Judged). Appends r.before.output.written r.after.output.written (message_by (writer context done.only) drawn (content x))) same
       (subst (λ (x : EncMaterialsValue). Appends r.before.output.written r.after.output.written (message_of x asked.frame (drawn_id drawn) (content (judged done.bytes reader.settings answer))))
       done.has.given.1 done.gained) in
-      subst (λ (x : Effect). ComesTo r world x)
+      subst (λ (x : Effect). RunComesTo r world x)
       (sym (begun_is context done.only done.key done.materials is done.has
       ∙ ap (resealed_text (writer context done.only) drawn (content j) context end) (le-leb (length (content j)) (most_text asked.frame) room)
       ∙ ap (λ (e : Option Failure). resealed_end (writer context done.only) drawn (content j) context e) whole))
@@ -196,14 +195,14 @@ module _ (r : Run) (world : World) (of : IsOf r world) (reader : Reader) (second
   locked_fault : (fault : Fault) → j.unlocked ≡ false → end ≡ Some (failures.Fault fault) → Appends r.before.output.written r.after.output.written []
       → Reports (failures.Fault fault) r.code r.before.report r.after.report → So
   locked_fault fault is named none said =
-      subst (λ (x : Effect). ComesTo r world x)
-      (sym (locked_is is ∙ ap (λ (e : Option Failure). opened_as [] (unlocked_to reader world.input) e) named)) (refuses r world [] (failures.Fault fault) none said)
+      subst (λ (x : Effect). RunComesTo r world x)
+      (sym (locked_is is ∙ ap (λ (e : Option Failure). opened_effect [] (unlocked_to reader world.input) e) named)) (refuses r world [] (failures.Fault fault) none said)
 
   -- it stands behind what was released
   open_fault : (fault : Fault) (whole only : List KeyValue) (key : List ℕ) → IsOpen whole only key → end ≡ Some (failures.Fault fault)
-      → WritesFront run drawn whole only (content j) r.before.output r.after.output → Reports (failures.Fault fault) r.code r.before.report r.after.report → So
+      → ResealWritesFront run drawn whole only (content j) r.before.output r.after.output → Reports (failures.Fault fault) r.code r.before.report r.after.report → So
   open_fault fault whole only key is named front said =
-      subst (λ (x : Effect). ComesTo r world x)
+      subst (λ (x : Effect). RunComesTo r world x)
       (sym (begun_is whole only key front.materials is front.has
       ∙ ap (resealed_text (writer whole only) drawn (content j) whole end) (le-leb (length (content j)) (most_text asked.frame) front.room)
       ∙ ap (λ (e : Option Failure). resealed_end (writer whole only) drawn (content j) whole e) named))
@@ -216,13 +215,13 @@ module _ (r : Run) (world : World) (of : IsOf r world) (reader : Reader) (second
       → WritesBy run drawn answer (content (judged bytes reader.settings answer)) b r.before.output r.after.output → Reports (failures.Fault fault) r.code r.before.report r.after.report → So
   fault_by fault bytes rest all (Unlocks whole only key) answered same named true is front said =
       open_fault fault whole only key (opens bytes rest all whole only key answered is) named
-      (subst (λ (x : Judged). WritesFront run drawn whole only (content x) r.before.output r.after.output) same front) said
+      (subst (λ (x : Judged). ResealWritesFront run drawn whole only (content x) r.before.output r.after.output) same front) said
   fault_by fault bytes rest all (Unlocks whole only key) answered same named false is none said =
       locked_fault fault (sym (ap (λ (x : Judged). x.unlocked) same) ∙ is) named none said
   fault_by fault bytes rest all (Refuses other) answered same named b is none said =
       locked_fault fault (sym (ap (λ (x : Judged). x.unlocked) same) ∙ refused_locked bytes reader.settings other) named none said
 
-  faulty : (fault : Fault) → HasFault run drawn r.before.input r.after.input r.before.output r.after.output fault → Reports (failures.Fault fault) r.code r.before.report r.after.report → So
+  faulty : (fault : Fault) → ResealFindsFault run drawn r.before.input r.after.input r.before.output r.after.output fault → Reports (failures.Fault fault) r.code r.before.report r.after.report → So
   faulty fault has said =
       let begins = begins_input r.before.input r.after.input world.input has.bytes of.input has.passes.came in
       let here : judged has.bytes reader.settings has.answer ≡ judged_by reader has.bytes = judged_reader reader has.bytes has.answer has.passes.answered in
@@ -242,7 +241,7 @@ module _ (r : Run) (world : World) (of : IsOf r world) (reader : Reader) (second
 
   -- ---- a read failed
 
-  passed_by : (failure : Failure) → HasFailed r world failure → IsReported failure r.code r.before.report r.after.report → (bytes rest : List ℕ) → world.input ≡ bytes ++ rest
+  passed_by : (failure : Failure) → RunFailed r world failure → IsReported failure r.code r.before.report r.after.report → (bytes rest : List ℕ) → world.input ≡ bytes ++ rest
       → (answer : Unlocking) → AnswersTo (answering_by reader) reader.settings reader.given bytes answer → (b : Bool) → (judged bytes reader.settings answer).unlocked ≡ b
       → WritesBy run drawn answer (content (judged bytes reader.settings answer)) b r.before.output r.after.output → So
   passed_by failure why said bytes rest all (Unlocks whole only key) answered true is front =
@@ -272,9 +271,9 @@ module _ (r : Run) (world : World) (of : IsOf r world) (reader : Reader) (second
       (more.1 ∙ ap (λ (t : List ℕ). t ++ more.0) (sym (take-append-drop (most_text asked.frame) text)) ∙ append_assoc (take (most_text asked.frame) text) (drop (most_text asked.frame) text) more.0)
       (omega (arith, length-take (most_text asked.frame) text)) (front_beyond r.before.output r.after.output _ _ f.last.was)
 
-  final_fits : (f : FinalFails run drawn r.before.input r.after.input r.before.output r.after.output) → Rose r.before.output.faults r.after.output.faults
+  final_fits : (f : ResealFinalFails run drawn r.before.input r.after.input r.before.output r.after.output) → Rose r.before.output.faults r.after.output.faults
       → IsReported (failures.Outside outsides.SinkFault) r.code r.before.report r.after.report → judged f.bytes reader.settings (Unlocks f.whole f.only f.key) ≡ j
-      → (b : Bool) → ComesTo r world (resealed_text (writer f.whole f.only) drawn (content j) f.whole None b)
+      → (b : Bool) → RunComesTo r world (resealed_text (writer f.whole f.only) drawn (content j) f.whole None b)
   final_fits f rose said same false = inr (inr (inr (inr (inr (record { asked = asked; words = is_reseal; refuses = refl; rose = rose; said = said })))))
   final_fits f rose said same true =
       stops r world (resealed_end (writer f.whole f.only) drawn (content j) f.whole None) (failures.Outside outsides.SinkFault) rose said
@@ -282,7 +281,7 @@ module _ (r : Run) (world : World) (of : IsOf r world) (reader : Reader) (second
       (subst (λ (x : EncMaterialsValue). Front (message_of x asked.frame (drawn_id drawn) (content (judged f.bytes reader.settings (Unlocks f.whole f.only f.key))))) f.has.given.1
       (front_beyond r.before.output r.after.output _ _ f.front)))
 
-  final_fails : Rose r.before.output.faults r.after.output.faults → FinalFails run drawn r.before.input r.after.input r.before.output r.after.output
+  final_fails : Rose r.before.output.faults r.after.output.faults → ResealFinalFails run drawn r.before.input r.after.input r.before.output r.after.output
       → IsReported (failures.Outside outsides.SinkFault) r.code r.before.report r.after.report → So
   final_fails rose f said =
       let answer : Unlocking = Unlocks f.whole f.only f.key in
@@ -293,7 +292,7 @@ module _ (r : Run) (world : World) (of : IsOf r world) (reader : Reader) (second
         answer = ap (unlocked_to reader) all ∙ sym (answers_unlocking reader f.bytes answer f.answered);
       } in
       let whole : end ≡ None = ap (λ (v : Verdict). failure_at v ends.Whole) (sym (ap (λ (x : Judged). x.verdict) same) ∙ f.verdict) in
-      subst (λ (x : Effect). ComesTo r world x)
+      subst (λ (x : Effect). RunComesTo r world x)
       (sym (begun_is f.whole f.only f.key f.materials is f.has ∙ ap (λ (e : Option Failure). resealed_text (writer f.whole f.only) drawn (content j) f.whole e fits) whole))
       (final_fits f rose said same fits)
 
@@ -305,19 +304,19 @@ module _ (r : Run) (world : World) (of : IsOf r world) (reader : Reader) (second
       let begins = begins_input r.before.input r.after.input world.input (f.first ++ f.opens.behind) of.input f.opens.came in
       let all = first_all f.first f.opens.behind begins.rest begins.all in
       let is = opens f.first (f.opens.behind ++ begins.rest) all f.whole f.only f.key f.opens.answered f.opens.unlocked in
-      subst (λ (x : Effect). ComesTo r world x)
+      subst (λ (x : Effect). RunComesTo r world x)
       (sym (open_is f.whole f.only f.key is ∙ elim f.why [
-        | inl named ↦ ap (λ (o : Option Refusal). unless_refused o (resealed_with (writer f.whole f.only) drawn (content j) f.whole end)) named
+        | inl named ↦ ap (λ (o : Option Refusal). effect_unless o (resealed_with (writer f.whole f.only) drawn (content j) f.whole end)) named
         | inr starts ↦
-            ap (λ (o : Option Refusal). unless_refused o (resealed_with (writer f.whole f.only) drawn (content j) f.whole end)) starts.given.0
-            ∙ ap (λ (o : Option Refusal). unless_refused o (resealed_text (writer f.whole f.only) drawn (content j) f.whole end fits))
+            ap (λ (o : Option Refusal). effect_unless o (resealed_with (writer f.whole f.only) drawn (content j) f.whole end)) starts.given.0
+            ∙ ap (λ (o : Option Refusal). effect_unless o (resealed_text (writer f.whole f.only) drawn (content j) f.whole end fits))
             (subst (λ (x : EncMaterialsValue). start_refusal x None (drawn_id drawn) ≡ Some refusal) starts.given.1 starts.refused)
       ]))
       (refuses r world [] (failures.Refusal refusal) f.nothing.gained said)
 
   -- ---- the end
 
-  pub reseals_ends : (error : InputError) → EndsSo run drawn r.before.input r.after.input r.before.output r.after.output error
+  pub reseals_ends : (error : InputError) → ResealEndsSo run drawn r.before.input r.after.input r.before.output r.after.output error
       → Reports (resealing_failure error) r.code r.before.report r.after.report → So
   reseals_ends (errors.Fault fault) has said = faulty fault has said
   reseals_ends (errors.Refusal refusal) (inl refuses_so) said = refuses_new refusal refuses_so said
@@ -331,7 +330,7 @@ module _ (r : Run) (world : World) (of : IsOf r world) (reader : Reader) (second
       let room : take (most_text asked.frame) text ≡ take (most_text asked.frame) (content j) =
       sym (ap (take (most_text asked.frame)) more.1 ∙ take-append-le (most_text asked.frame) text more.0 (omega (arith, f.many))) in
       let over : most_text asked.frame < length (content j) = omega (arith, f.many, ap length more.1, length-append text more.0) in
-      subst (λ (x : Effect). ComesTo r world x)
+      subst (λ (x : Effect). RunComesTo r world x)
       (sym (begun_is f.whole f.only f.key f.materials (opens f.first rest all f.whole f.only f.key f.opens.answered f.opens.unlocked) f.has
       ∙ ap (resealed_text (writer f.whole f.only) drawn (content j) f.whole end) (lt-leb (length (content j)) (most_text asked.frame) over)))
       (refuses r world (begun_by (writer f.whole f.only) drawn (take (most_text asked.frame) (content j))) (failures.Refusal TooManyFrames)

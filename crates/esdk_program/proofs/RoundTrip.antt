@@ -9,7 +9,7 @@ use Rattle.esdk_decrypt.proofs.RoundTrip.{written_judged, written_unlocked}
 use Rattle.esdk_report.specs.Report.{context_line}
 use Rattle.esdk_program.specs.Effect.{done_with}
 use Rattle.esdk_program.specs.Laws.{OpensWhatIsArmoured, OpensWhatIsWritten, just}
-use Rattle.esdk_program.specs.Program.{opened_with}
+use Rattle.esdk_program.specs.Program.{judged_effect}
 use Rattle.esdk_program.proofs.Opening.{whole_is}
 
 pub written_opens : OpensWhatIsWritten
@@ -22,4 +22,4 @@ written_opens reader writers m written =
 
 pub armoured_opens : OpensWhatIsArmoured
 armoured_opens reader writers m written are few =
-    ap (opened_with reader) (takes_armour_text (written_message m) are few) ∙ written_opens reader writers m written
+    ap (judged_effect reader) (takes_armour_text (written_message m) are few) ∙ written_opens reader writers m written

@@ -17,10 +17,10 @@ use Rattle.whole_input.specs.File.{IsFile, IsLong}
 use Rattle.esdk_report.specs.Report.{Reports}
 use Rattle.esdk_report.specs.declared.failure.Failure.{Failure}
 use Rattle.esdk_report.specs.declared.failure.Failure.TheVariants as failures
-use Rattle.esdk_run.specs.FileReading.{FileFails, FileIsRefused}
+use Rattle.esdk_run.specs.FileReading.{FileFails, RefusesFile}
 use Rattle.esdk_run.specs.Pairs.{RefusesWordPairs}
 use Rattle.esdk_run.specs.Trees.{HasNoTree}
-use Rattle.esdk_program.specs.Effect.{ComesTo, Effect, refused}
+use Rattle.esdk_program.specs.Effect.{RunComesTo, Effect, refused}
 use Rattle.esdk_program.specs.Program.{prepared, with_file, with_read}
 use Rattle.esdk_program.specs.World.{IsOf, Run, World}
 use Rattle.esdk_program.proofs.Ends.{at_any, reported, refuses_unwritten, stops_unwritten}
@@ -57,10 +57,10 @@ behind_none r = record { files = refl; faults = refl; grown = grows_none r.befor
 module _ (r : Run) (world : World) (of : IsOf r world) (old : ShelfState) (behind : IsBehind r old) where
   -- K10
   long_file : (name : List ℕ) (go : List ℕ → Option Effect) → IsLong old r.after.shelf name → Reports (failures.File FileTooLong) r.code r.before.report r.after.report
-      → r.after.output ≡ r.before.output → IfSome (with_file (world.files name) go) (ComesTo r world)
+      → r.after.output ≡ r.before.output → IfSome (with_file (world.files name) go) (RunComesTo r world)
   long_file name go long said same = elim (told_or_not old.files name long.there) [
     | inl untold ↦ (elim (reported (failures.File FileTooLong) r.code r.before.report r.after.report said) [
-      | inl is ↦ at_any (with_file (world.files name) go) (ComesTo r world)
+      | inl is ↦ at_any (with_file (world.files name) go) (RunComesTo r world)
           (λ e. inr (inr (inr (inr (inl (record { untold = sym behind.files ∙ untold; said = is; unwritten = same }))))))
       | inr memory ↦ stops_unwritten r world (with_file (world.files name) go) failures.Memory tt memory same
     ])
@@ -71,8 +71,8 @@ module _ (r : Run) (world : World) (of : IsOf r world) (old : ShelfState) (behin
   -- a file that is refused: K10, or as its bytes are read
   refused_file : {A : Type 0} (read : List ℕ → Result A FileRefusal) (go_on : List ℕ → Result A FileRefusal → Option Effect) (name : List ℕ) (refusal : FileRefusal)
       → ((bytes : List ℕ) → go_on bytes (Err refusal) ≡ Some (refused [] (failures.File refusal)))
-      → FileIsRefused read old r.after.shelf name refusal → Reports (failures.File refusal) r.code r.before.report r.after.report → r.after.output ≡ r.before.output
-      → IfSome (with_file (world.files name) (λ bytes. go_on bytes (read bytes))) (ComesTo r world)
+      → (((refusal ≡ FileTooLong) × IsLong old r.after.shelf name) ⊎ RefusesFile read old r.after.shelf name refusal) → Reports (failures.File refusal) r.code r.before.report r.after.report → r.after.output ≡ r.before.output
+      → IfSome (with_file (world.files name) (λ bytes. go_on bytes (read bytes))) (RunComesTo r world)
   refused_file read go_on name refusal err (inl (is, long)) said same =
       long_file name (λ bytes. go_on bytes (read bytes)) long (subst (λ (f : FileRefusal). Reports (failures.File f) r.code r.before.report r.after.report) is said) same
   refused_file read go_on name refusal err (inr refuses) said same =
@@ -86,7 +86,7 @@ module _ (r : Run) (world : World) (of : IsOf r world) (old : ShelfState) (behin
   pub file_fails : {A : Type 0} (read : List ℕ → Result A FileRefusal) (go_on : List ℕ → Result A FileRefusal → Option Effect) (name : List ℕ)
       → ((bytes : List ℕ) (refusal : FileRefusal) → go_on bytes (Err refusal) ≡ Some (refused [] (failures.File refusal)))
       → (failure : Failure) → FileFails read old r.after.shelf name failure → Reports failure r.code r.before.report r.after.report → r.after.output ≡ r.before.output
-      → IfSome (with_file (world.files name) (λ bytes. go_on bytes (read bytes))) (ComesTo r world)
+      → IfSome (with_file (world.files name) (λ bytes. go_on bytes (read bytes))) (RunComesTo r world)
   file_fails read go_on name err (failures.File refusal) fails said same = refused_file read go_on name refusal (λ bytes. err bytes refusal) fails said same
   file_fails read go_on name err (failures.Outside outsides.ShelfFault) fails said same = elim fails.cause [
     | inl rose ↦ stops_unwritten r world (with_file (world.files name) (λ bytes. go_on bytes (read bytes))) (failures.Outside outsides.ShelfFault)
@@ -107,17 +107,17 @@ module _ (r : Run) (world : World) (of : IsOf r world) (old : ShelfState) (behin
     (err : (bytes : List ℕ) (refusal : FileRefusal) → go_on bytes (Err refusal) ≡ Some (refused [] (failures.File refusal)))
     (is : world.files one ≡ Some bytes → o ≡ with_file (world.files name) (λ b. go_on b (read b))) (same : r.after.output ≡ r.before.output) where
   abbrev Second : Type 0
-  Second = IfSome o (ComesTo r world)
+  Second = IfSome o (RunComesTo r world)
 
   second_so : (failure : Failure) → FileFails read old r.after.shelf name failure → Reports failure r.code r.before.report r.after.report → world.files one ≡ Some bytes → Second
   second_so failure fails said holds =
-      subst (λ (x : Option Effect). IfSome x (ComesTo r world)) (sym (is holds)) (file_fails r world of old behind read go_on name err failure fails said same)
+      subst (λ (x : Option Effect). IfSome x (RunComesTo r world)) (sym (is holds)) (file_fails r world of old behind read go_on name err failure fails said same)
 
   -- on a shelf that tells no files
   untold_second : (failure : Failure) → FileFails read old r.after.shelf name failure → Reports failure r.code r.before.report r.after.report → r.before.shelf.files ≡ None → Second
   untold_second (failures.File refusal) (inl (named, long)) said untold =
       elim (reported (failures.File FileTooLong) r.code r.before.report r.after.report (subst (λ (f : FileRefusal). Reports (failures.File f) r.code r.before.report r.after.report) named said)) [
-        | inl reports ↦ at_any o (ComesTo r world) (λ e. inr (inr (inr (inr (inl (record { untold = untold; said = reports; unwritten = same }))))))
+        | inl reports ↦ at_any o (RunComesTo r world) (λ e. inr (inr (inr (inr (inl (record { untold = untold; said = reports; unwritten = same }))))))
         | inr memory ↦ stops_unwritten r world o failures.Memory tt memory same
       ]
   untold_second (failures.File refusal) (inr refuses) said untold =
@@ -142,13 +142,13 @@ module _ (r : Run) (world : World) (of : IsOf r world) where
 
   pub no_tree : (words : List PairWord) (name : List ℕ) (go : List KeyValue → KeyringMeaning → Option Effect) (failure : Failure)
       → HasNoTree r.trees words name r.before.shelf r.after.shelf failure → Reports failure r.code r.before.report r.after.report → r.after.output ≡ r.before.output
-      → IfSome (prepared words r.trees world name go) (ComesTo r world)
+      → IfSome (prepared words r.trees world name go) (RunComesTo r world)
   no_tree words name go failure lacks said same =
-      subst (λ (o : Option Effect). IfSome o (ComesTo r world)) (sym (context_taken words lacks.context r.trees world name go lacks.given.made))
+      subst (λ (o : Option Effect). IfSome o (RunComesTo r world)) (sym (context_taken words lacks.context r.trees world name go lacks.given.made))
       (file_fails r world of r.before.shelf (behind_none r) r.trees.read (λ bytes x. with_read x (go lacks.context)) name (λ bytes refusal. refl) failure lacks.cause said same)
 
   pub no_context : (words : List PairWord) (name : List ℕ) (go : List KeyValue → KeyringMeaning → Option Effect) (refusal : Refusal) (unread : Type 0)
       → RefusesWordPairs words refusal unread → Reports (failures.Refusal refusal) r.code r.before.report r.after.report → r.after.output ≡ r.before.output
-      → IfSome (prepared words r.trees world name go) (ComesTo r world)
+      → IfSome (prepared words r.trees world name go) (RunComesTo r world)
   no_context words name go refusal unread refuses said same =
       refuses_unwritten r world (prepared words r.trees world name go) (failures.Refusal refusal) (context_refused words refusal r.trees world name go refuses.refused) said same

@@ -6,7 +6,7 @@ use Rattle.esdk_fields.specs.Reading.{Reading, Read, Refused, Wanting}
 use Rattle.esdk_fields.proofs.Fronts.{value_stays}
 use Rattle.header_codec.specs.declared.settings.Settings.{Settings}
 use Rattle.header_codec.specs.Header.{HeaderValue}
-use Rattle.header_codec.specs.Table.{Head, header}
+use Rattle.header_codec.specs.Table.{HeaderFields, header}
 use Rattle.header_codec.proofs.Order.{IsSequential-header}
 use Rattle.keyring_trait.specs.Unlocking.{Unlocking, Refuses, Unlocks}
 use Rattle.body_format.specs.declared.verdicts.Verdict.{Verdict}
@@ -16,11 +16,10 @@ use Rattle.message_format.specs.Reading.{unlock_header}
 use Rattle.message_format.proofs.Following.{header_stays, unlocking_stays}
 use Rattle.message_format.proofs.Judging.{judged_is, judged_refused, judged_wanting}
 use Rattle.message_format.proofs.ReadingOn.{read_goes_on, read_is, unlocking_is}
-use Rattle.reseal_core.specs.Laws.{unlocked_to}
-use Rattle.esdk_decrypt.specs.Told.{Reader, judged_by}
+use Rattle.esdk_decrypt.specs.Told.{Reader, judged_by, unlocked_to}
 
 -- a refused message isn't unlocked
-refused_reading : (b : List ℕ) (settings : Settings) (fault : Fault) (h : Reading Head) → (judged_reading b settings (Refuses fault) h).unlocked ≡ false
+refused_reading : (b : List ℕ) (settings : Settings) (fault : Fault) (h : Reading HeaderFields) → (judged_reading b settings (Refuses fault) h).unlocked ≡ false
 refused_reading b settings fault (Read parts p) = refl
 refused_reading b settings fault (Refused other at) = refl
 refused_reading b settings fault Wanting = refl
@@ -35,7 +34,7 @@ whole_lock : (settings : Settings) (h : HeaderValue) (key : List ℕ) (p : Place
 whole_lock settings h key p None whole = refl
 whole_lock settings h key p (Some fault) whole = absurd (cc whole)
 
-whole_reading : (b : List ℕ) (settings : Settings) (answer : Unlocking) (h : Reading Head) → (judged_reading b settings answer h).verdict ≡ verdicts.Whole
+whole_reading : (b : List ℕ) (settings : Settings) (answer : Unlocking) (h : Reading HeaderFields) → (judged_reading b settings answer h).verdict ≡ verdicts.Whole
     → (judged_reading b settings answer h).unlocked ≡ true
 whole_reading b settings (Refuses fault) (Read parts p) whole = absurd (cc whole)
 whole_reading b settings (Unlocks context only key) (Read parts p) whole = whole_lock settings (header_of b parts) key p (lock_fault (header_of b parts) only key) whole
@@ -52,7 +51,7 @@ whole_unlocked b settings answer whole =
 locked_reads : (reader : Reader) (b : List ℕ) (answer : Unlocking) (v : Verdict) → judged b reader.settings answer ≡ locked v → (judged b reader.settings answer).unlocked ≡ true → ⊥
 locked_reads reader b answer v is e = let both : false ≡ true = sym (ap (λ (j : Judged). j.unlocked) is) ∙ e in cc both
 
-unlocked_by : (reader : Reader) (b more : List ℕ) (h : Reading Head) → header reader.settings (start b) ≡ h → (judged b reader.settings (unlocked_to reader b)).unlocked ≡ true
+unlocked_by : (reader : Reader) (b more : List ℕ) (h : Reading HeaderFields) → header reader.settings (start b) ≡ h → (judged b reader.settings (unlocked_to reader b)).unlocked ≡ true
     → unlocked_to reader (b ++ more) ≡ unlocked_to reader b
 unlocked_by reader b more (Read parts p) is e =
     unlocking_is (b ++ more) reader.settings reader.given reader.required reader.keys (Read parts (followed p more))

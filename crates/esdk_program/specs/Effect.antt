@@ -10,7 +10,7 @@ use Rattle.esdk_fields.specs.declared.refusals.Refusal.TheVariants.{TooManyFrame
 use Rattle.esdk_base.specs.Sink.{AppendsFront}
 use Rattle.keyring_trait.specs.Keyring.{KeyringMeaning}
 use Rattle.esdk_report.specs.Lines.{printed_line}
-use Rattle.esdk_report.specs.Report.{Gains, IsReported, code_of, line_of}
+use Rattle.esdk_report.specs.Report.{ReportGains, IsReported, failure_status, failure_line}
 use Rattle.esdk_report.specs.declared.failure.Failure.{Failure}
 use Rattle.esdk_report.specs.declared.failure.Failure.TheVariants as failures
 use Rattle.esdk_program.specs.World.{Run, World}
@@ -28,9 +28,9 @@ done_with output report = record { code = 0; output = output; report = report }
 -- a refusal, a fault or an outside failure, with this on the output and its line on the report
 abbrev pub refused : List ℕ → Failure → Effect
 refused output failure = record {
-  code = code_of failure;
+  code = failure_status failure;
   output = output;
-  report = printed_line (line_of failure);
+  report = printed_line (failure_line failure);
 }
 
 -- ---- the run did this
@@ -40,7 +40,7 @@ refused output failure = record {
 pub record DoesAll (r : Run) (e : Effect) : Type 0 where
   pub code : r.code ≡ e.code
   pub output : Appends r.before.output.written r.after.output.written e.output
-  pub report : Gains e.report r.before.report r.after.report
+  pub report : ReportGains e.report r.before.report r.after.report
 
 -- ---- or it was disturbed
 
@@ -57,29 +57,29 @@ pub record KeyringFailed (r : Run) (world : World) : Type 0 where
 
 -- What this failure is about failed: a count of faults rose, or is worn. Memory may be wanting at
 -- any time.
-abbrev pub HasFailed : Run → World → Failure → Type 0
-HasFailed r world (failures.Outside outsides.SourceFault) =
+abbrev pub RunFailed : Run → World → Failure → Type 0
+RunFailed r world (failures.Outside outsides.SourceFault) =
     Rose r.before.input.faults r.after.input.faults
-HasFailed r world (failures.Outside outsides.SinkFault) =
+RunFailed r world (failures.Outside outsides.SinkFault) =
     Rose r.before.output.faults r.after.output.faults
-HasFailed r world (failures.Outside outsides.ShelfFault) =
+RunFailed r world (failures.Outside outsides.ShelfFault) =
     Rose r.before.shelf.faults r.after.shelf.faults
-HasFailed r world (failures.Outside outsides.EntropyFault) =
+RunFailed r world (failures.Outside outsides.EntropyFault) =
     Rose r.before.entropy.faults r.after.entropy.faults
-HasFailed r world (failures.Outside outsides.KeyringFault) = KeyringFailed r world
-HasFailed r world failures.Memory = ⊤
-HasFailed r world failure = ⊥
+RunFailed r world (failures.Outside outsides.KeyringFault) = KeyringFailed r world
+RunFailed r world failures.Memory = ⊤
+RunFailed r world failure = ⊥
 
 -- Memory ran out, or an object or a keyring failed. The status and the report's line are those of
 -- that, and the output gained a front.
 pub record IsStopped (r : Run) (world : World) (e : Effect) : Type 0 where
   pub failure : Failure
-  pub why : HasFailed r world failure
+  pub why : RunFailed r world failure
   pub said : IsReported failure r.code r.before.report r.after.report
   pub front : AppendsFront r.before.output.written r.after.output.written e.output
 
 -- A write of the report failed at the end. All was done but that, and the status is 4.
-pub record LosesReport (r : Run) (e : Effect) : Type 0 where
+pub record RunLosesReport (r : Run) (e : Effect) : Type 0 where
   pub code : r.code ≡ 4
   pub output : Appends r.before.output.written r.after.output.written e.output
   pub report : AppendsFront r.before.report.written r.after.report.written e.report
@@ -99,7 +99,7 @@ pub record LongUntold (r : Run) : Type 0 where
 pub record FrontUntold (r : Run) (e : Effect) : Type 0 where
   pub asked : ResealWords
   pub words : r.words ≡ Ok (requests.Reseal asked)
-  pub refuses : e.code ≡ code_of (failures.Refusal TooManyFrames)
+  pub refuses : e.code ≡ failure_status (failures.Refusal TooManyFrames)
   pub rose : Rose r.before.output.faults r.after.output.faults
   pub said : IsReported (failures.Outside outsides.SinkFault) r.code r.before.report r.after.report
 
@@ -108,9 +108,9 @@ pub record FrontUntold (r : Run) (e : Effect) : Type 0 where
 -- The run was stopped; or its report was lost; or a keyring failed, and was passed over for
 -- another, of which nothing is said here; or it is one of the two of which no clause speaks.
 abbrev pub IsDisturbed : Run → World → Effect → Type 0
-IsDisturbed r world e = IsStopped r world e ⊎ LosesReport r e ⊎ KeyringFailed r world
+IsDisturbed r world e = IsStopped r world e ⊎ RunLosesReport r e ⊎ KeyringFailed r world
     ⊎ LongUntold r ⊎ FrontUntold r e
 
 -- The run did just this, or it was disturbed.
-abbrev pub ComesTo : Run → World → Effect → Type 0
-ComesTo r world e = DoesAll r e ⊎ IsDisturbed r world e
+abbrev pub RunComesTo : Run → World → Effect → Type 0
+RunComesTo r world e = DoesAll r e ⊎ IsDisturbed r world e

@@ -10,7 +10,7 @@ use Rattle.esdk_decrypt.specs.Told.{Reader}
 use Rattle.esdk_report.specs.Report.{context_line}
 use Rattle.esdk_run.specs.Unarmoured.{outlook_of}
 use Rattle.esdk_program.specs.Effect.{done_with}
-use Rattle.esdk_program.specs.Program.{opened_with}
+use Rattle.esdk_program.specs.Program.{judged_effect}
 
 -- an input of just these bytes
 abbrev pub just : List ℕ → Outlook
@@ -21,12 +21,12 @@ just bytes = record { bytes = bytes; end = Whole }
 abbrev pub OpensWhatIsWritten : Type 0
 OpensWhatIsWritten = (reader : Reader) (writers : List WrapKeyValue) (m : Written)
     → IsWrittenFor reader writers m
-    → opened_with reader (just (written_message m)) ≡ done_with m.text (context_line m.context)
+    → judged_effect reader (just (written_message m)) ≡ done_with m.text (context_line m.context)
 
 -- The same of its armour text.
 abbrev pub OpensWhatIsArmoured : Type 0
 OpensWhatIsArmoured = (reader : Reader) (writers : List WrapKeyValue) (m : Written)
     → IsWrittenFor reader writers m → AreBytes (written_message m)
     → length (armour_text (written_message m)) < 2 ^ 62
-    → opened_with reader (outlook_of true (armour_text (written_message m)))
+    → judged_effect reader (outlook_of true (armour_text (written_message m)))
     ≡ done_with m.text (context_line m.context)

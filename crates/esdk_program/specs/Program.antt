@@ -1,6 +1,7 @@
 -- What the program does: a function of its words and of the world. Each command is one function,
 -- in the words of docs/FORMAT.md, "The commands".
-use Rattle.std.specs.Prelude.{ℕ, List, [], ◌∷◌, ◌++◌, length, map, take, nat_le, Bool, true, false, Option, Some, None, Result, Ok, Err, IfSome}
+use Rattle.std.specs.Prelude.{ℕ, List, [], ◌∷◌, ◌++◌, length, map, take, nat_le, Bool, true, false}
+use Rattle.std.specs.Prelude.{Option, Some, None, Result, Ok, Err, IfSome}
 use Rattle.esdk_args.specs.declared.pair_words.PairWord.{PairWord}
 use Rattle.esdk_args.specs.declared.request.DecryptWords.{DecryptWords}
 use Rattle.esdk_args.specs.declared.request.EncryptWords.{EncryptWords}
@@ -23,12 +24,12 @@ use Rattle.context_codec.specs.Context.{KeyValue}
 use Rattle.keyring_trait.specs.Keyring.{KeyringMeaning}
 use Rattle.keyring_trait.specs.Unlocking.{Unlocking, Refuses, Unlocks}
 use Rattle.keyring_trait.specs.Wrapping.{WrapKeyValue, active}
-use Rattle.header_codec.specs.Table.{Head, header}
+use Rattle.header_codec.specs.Table.{HeaderFields, header}
 use Rattle.body_format.specs.declared.verdicts.Verdict.{Verdict}
 use Rattle.body_format.specs.declared.verdicts.Verdict.TheVariants as verdicts
 use Rattle.message_format.specs.Judgement.{Judged, content, header_of}
 use Rattle.message_format.specs.Reading.{unlocking}
-use Rattle.stream_seal.specs.Start.{most_text, start_refusal}
+use Rattle.stream_seal.specs.Start.{most_text, start_refusal, drawn_id, drawn_rest}
 use Rattle.job_file.specs.declared.audit.AuditMessage.{AuditMessage}
 use Rattle.job_file.specs.Audit.{audit_of}
 use Rattle.audit_core.specs.declared.audited.Audited.{Audited}
@@ -39,19 +40,18 @@ use Rattle.armour_core.specs.Outlook.{Outlook}
 use Rattle.armour_core.specs.declared.text_end.TextEnd.{TextEnd}
 use Rattle.armour_core.specs.declared.text_end.TextEnd.TheVariants as ends
 use Rattle.whole_input.specs.File.{most_file}
-use Rattle.esdk_encrypt.specs.Encrypt.{draws, drawn_id, drawn_rest, written_so_far}
-use Rattle.esdk_encrypt.specs.Gaining.{Form, Front, Whole}
-use Rattle.esdk_encrypt.specs.Told.{Writer, materials_of, message_by, wraps_of}
-use Rattle.esdk_decrypt.specs.Told.{Reader, judged_by}
+use Rattle.esdk_encrypt.specs.Encrypt.{drawn_count, written_so_far}
+use Rattle.esdk_encrypt.specs.Gaining.{OutputForm, Front, Whole}
+use Rattle.esdk_encrypt.specs.Told.{Writer, drawn_materials, message_by, writer_wraps}
+use Rattle.esdk_decrypt.specs.Told.{Reader, judged_by, unlocked_to}
 use Rattle.esdk_gen.specs.Generator.{gen_line}
 use Rattle.extract_core.specs.Extracted.{ByteRange}
-use Rattle.reseal_core.specs.Laws.{unlocked_to}
 use Rattle.esdk_report.specs.Report.{context_line}
-use Rattle.esdk_list.specs.List.{limits_of}
+use Rattle.esdk_list.specs.List.{list_settings}
 use Rattle.esdk_list.specs.Listing.{list_of}
 use Rattle.esdk_report.specs.declared.failure.Failure.{Failure}
 use Rattle.esdk_report.specs.declared.failure.Failure.TheVariants as failures
-use Rattle.esdk_run.specs.ArmouredMessage.{form_of}
+use Rattle.esdk_run.specs.ArmouredMessage.{output_form}
 use Rattle.esdk_run.specs.Audit.{audit_status}
 use Rattle.esdk_run.specs.Decrypt.{reader_of}
 use Rattle.esdk_run.specs.Encrypt.{refusal_asked, run_writer}
@@ -65,7 +65,7 @@ use Rattle.esdk_run.specs.Promises.{Words}
 use Rattle.esdk_run.specs.ResealTold.{reseal_reader, reseal_writer}
 use Rattle.esdk_run.specs.Trees.{TreeReading, Trees}
 use Rattle.esdk_run.specs.Unarmoured.{outlook_of}
-use Rattle.esdk_program.specs.Effect.{ComesTo, Effect, done_with, refused}
+use Rattle.esdk_program.specs.Effect.{RunComesTo, Effect, done_with, refused}
 use Rattle.esdk_program.specs.World.{IsOf, Run, World}
 
 -- ---- before a command begins
@@ -84,9 +84,10 @@ with_read (Ok trees) go = None
 with_read (Err refusal) go = Some (refused [] (failures.File refusal))
 
 -- K1 and so on, where the bytes of a file aren't read as a value
-abbrev pub with_value : {A : Type 0} → Result A FileRefusal → (A → Option Effect) → Option Effect
-with_value (Ok value) go = go value
-with_value (Err refusal) go = Some (refused [] (failures.File refusal))
+abbrev pub with_value_read : {A : Type 0} → Result A FileRefusal → (A → Option Effect)
+    → Option Effect
+with_value_read (Ok value) go = go value
+with_value_read (Err refusal) go = Some (refused [] (failures.File refusal))
 
 -- K10, where a file is too long
 abbrev pub with_length : (few : Bool) → Option Effect → Option Effect
@@ -115,36 +116,36 @@ with_told (Some keys) go = Some (go keys)
 with_told None go = None
 
 -- the keys of two
-abbrev pub with_both : Option (List WrapKeyValue) → Option (List WrapKeyValue)
+abbrev pub with_both_keys : Option (List WrapKeyValue) → Option (List WrapKeyValue)
     → (List WrapKeyValue → List WrapKeyValue → Effect) → Option Effect
-with_both (Some keys) (Some others) go = Some (go keys others)
-with_both keys others go = None
+with_both_keys (Some keys) (Some others) go = Some (go keys others)
+with_both_keys keys others go = None
 
 -- ---- `encrypt`
 
 -- a refusal, before anything is written
-abbrev pub unless_refused : Option Refusal → Effect → Effect
-unless_refused None effect = effect
-unless_refused (Some refusal) effect = refused [] (failures.Refusal refusal)
+abbrev pub effect_unless : Option Refusal → Effect → Effect
+effect_unless None effect = effect
+effect_unless (Some refusal) effect = refused [] (failures.Refusal refusal)
 
 -- the header and all frames but the last, as they are written while a text goes on
 abbrev pub begun_by : Writer → (drawn text : List ℕ) → List ℕ
 begun_by writer drawn text =
-    written_so_far (materials_of writer (drawn_rest drawn)) writer.size (drawn_id drawn) text
+    written_so_far (drawn_materials writer (drawn_rest drawn)) writer.size (drawn_id drawn) text
 
 -- the message of the text; or Q9, where a message has no room for it, behind all frames but the
 -- last of what has room
-abbrev pub sealed_text : Form → Writer → (drawn text : List ℕ) → (fits : Bool) → Effect
-sealed_text form writer drawn text true = done_with (form Whole (message_by writer drawn text)) []
-sealed_text form writer drawn text false =
+abbrev pub sealed_effect : OutputForm → Writer → (drawn text : List ℕ) → (fits : Bool) → Effect
+sealed_effect form writer drawn text true = done_with (form Whole (message_by writer drawn text)) []
+sealed_effect form writer drawn text false =
     refused (form Front (begun_by writer drawn (take (most_text writer.size) text)))
     (failures.Refusal TooManyFrames)
 
 -- Q7 or Q8, where no header can be written
-abbrev pub sealed_with : Form → Writer → (drawn text : List ℕ) → Effect
-sealed_with form writer drawn text = unless_refused
-    (start_refusal (materials_of writer (drawn_rest drawn)) writer.max_keys (drawn_id drawn))
-    (sealed_text form writer drawn text (nat_le (length text) (most_text writer.size)))
+abbrev pub sealed_with : OutputForm → Writer → (drawn text : List ℕ) → Effect
+sealed_with form writer drawn text = effect_unless
+    (start_refusal (drawn_materials writer (drawn_rest drawn)) writer.max_keys (drawn_id drawn))
+    (sealed_effect form writer drawn text (nat_le (length text) (most_text writer.size)))
 
 -- Q4, Q1, Q5 or Q6, where the request is refused; else the message of the whole input, made with
 -- the first random bytes
@@ -152,8 +153,8 @@ unfoldable pub encrypt_effect : EncryptWords → Trees → World → Option Effe
 encrypt_effect asked trees world = prepared asked.pairs trees world asked.keyring
     (λ context tree. with_told tree.keys
     (λ keys. let writer : Writer = run_writer asked context keys in
-    unless_refused (refusal_asked asked context tree) (sealed_with (form_of asked.armour) writer
-    (take (draws (wraps_of writer)) world.random) world.input)))
+    effect_unless (refusal_asked asked context tree) (sealed_with (output_form asked.armour) writer
+    (take (drawn_count (writer_wraps writer)) world.random) world.input)))
 
 -- ---- `list`
 
@@ -164,14 +165,14 @@ cut_short (ends.Bad number) = failures.Fault (BadArmour number)
 cut_short ends.TooLong = failures.Outside outsides.InputTooLong
 
 -- the listing, or the header's fault, or that no header is whole
-abbrev pub listed : Outlook → Reading Head → Effect
-listed o (Read parts body) = done_with (list_of (header_of o.bytes parts)) []
-listed o (Refused fault at) = refused [] (failures.Fault fault)
-listed o Wanting = refused [] (cut_short o.end)
+abbrev pub listing_effect : Outlook → Reading HeaderFields → Effect
+listing_effect o (Read parts body) = done_with (list_of (header_of o.bytes parts)) []
+listing_effect o (Refused fault at) = refused [] (failures.Fault fault)
+listing_effect o Wanting = refused [] (cut_short o.end)
 
 -- of an input that gives these bytes and ends so
 abbrev pub listed_of : (uncommitted : Bool) → Outlook → Effect
-listed_of uncommitted o = listed o (header (limits_of uncommitted) (start o.bytes))
+listed_of uncommitted o = listing_effect o (header (list_settings uncommitted) (start o.bytes))
 
 -- the header at the front of the input, or of the bytes that its armour gives
 unfoldable pub list_effect : ListWords → World → Effect
@@ -186,18 +187,18 @@ failure_at verdicts.Whole ends.Whole = None
 failure_at verdict end = Some (cut_short end)
 
 -- the whole context, where the header is unlocked
-abbrev pub whole_in : Unlocking → List KeyValue
-whole_in (Unlocks whole only key) = whole
-whole_in (Refuses fault) = []
+abbrev pub context_found : Unlocking → List KeyValue
+context_found (Unlocks whole only key) = whole
+context_found (Refuses fault) = []
 
 -- what is released, and behind it the line of the whole context, or the failure
-abbrev pub opened_as : (text : List ℕ) → Unlocking → Option Failure → Effect
-opened_as text answer None = done_with text (context_line (whole_in answer))
-opened_as text answer (Some failure) = refused text failure
+abbrev pub opened_effect : (text : List ℕ) → Unlocking → Option Failure → Effect
+opened_effect text answer None = done_with text (context_line (context_found answer))
+opened_effect text answer (Some failure) = refused text failure
 
 -- the judgement of an input that gives these bytes and ends so
-abbrev pub opened_with : Reader → Outlook → Effect
-opened_with reader o = opened_as (content (judged_by reader o.bytes))
+abbrev pub judged_effect : Reader → Outlook → Effect
+judged_effect reader o = opened_effect (content (judged_by reader o.bytes))
     (unlocking o.bytes reader.settings reader.given reader.required reader.keys)
     (failure_at (judged_by reader o.bytes).verdict o.end)
 
@@ -205,7 +206,7 @@ opened_with reader o = opened_as (content (judged_by reader o.bytes))
 unfoldable pub decrypt_effect : DecryptWords → Trees → World → Option Effect
 decrypt_effect asked trees world = prepared asked.pairs trees world asked.keyring
     (λ given tree. with_told tree.keys
-    (λ keys. opened_with (reader_of asked given keys) (outlook_of asked.armour world.input)))
+    (λ keys. judged_effect (reader_of asked given keys) (outlook_of asked.armour world.input)))
 
 -- ---- `reseal`
 
@@ -226,24 +227,25 @@ resealed_text writer drawn text context end false = refused
 
 -- Q8, where no new header can be written
 abbrev pub resealed_with : Writer → (drawn text : List ℕ) → List KeyValue → Option Failure → Effect
-resealed_with writer drawn text context end = unless_refused
-    (start_refusal (materials_of writer (drawn_rest drawn)) None (drawn_id drawn))
+resealed_with writer drawn text context end = effect_unless
+    (start_refusal (drawn_materials writer (drawn_rest drawn)) None (drawn_id drawn))
     (resealed_text writer drawn text context end (nat_le (length text) (most_text writer.size)))
 
 -- Where the old message is unlocked: Q1, Q5 or Q6, where the second tree refuses its whole context;
 -- else the new one. Where it isn't, what ends it.
-abbrev pub resealed : KeyringMeaning → (List KeyValue → List KeyValue → Writer) → (drawn : List ℕ)
+abbrev pub resealed_effect : KeyringMeaning → (List KeyValue → List KeyValue → Writer)
+    → (drawn : List ℕ)
     → Judged → (unlocked : Bool) → Unlocking → Effect
-resealed second writer drawn j true (Unlocks whole only key) = unless_refused
+resealed_effect second writer drawn j true (Unlocks whole only key) = effect_unless
     (refusal_over whole second)
     (resealed_with (writer whole only) drawn (content j) whole (failure_at j.verdict ends.Whole))
-resealed second writer drawn j unlocked answer =
-    opened_as [] answer (failure_at j.verdict ends.Whole)
+resealed_effect second writer drawn j unlocked answer =
+    opened_effect [] answer (failure_at j.verdict ends.Whole)
 
 -- of a whole input
 abbrev pub resealed_by : Reader → KeyringMeaning → (List KeyValue → List KeyValue → Writer)
     → (drawn bytes : List ℕ) → Effect
-resealed_by reader second writer drawn bytes = resealed second writer drawn
+resealed_by reader second writer drawn bytes = resealed_effect second writer drawn
     (judged_by reader bytes) (judged_by reader bytes).unlocked (unlocked_to reader bytes)
 
 -- both keyring files, and then the judgement of the whole input under the keys of the first, and
@@ -251,9 +253,9 @@ resealed_by reader second writer drawn bytes = resealed second writer drawn
 unfoldable pub reseal_effect : ResealWords → Trees → World → Option Effect
 reseal_effect asked trees world = prepared asked.pairs trees world asked.keyring
     (λ given tree. with_tree trees.plain world asked.to_keyring
-    (λ second. with_both tree.keys second.keys
+    (λ second. with_both_keys tree.keys second.keys
     (λ keys others. resealed_by (reseal_reader asked given keys) second (reseal_writer asked others)
-    (take (draws (length (active others))) world.random) world.input)))
+    (take (drawn_count (length (active others))) world.random) world.input)))
 
 -- ---- `extract`
 
@@ -288,20 +290,22 @@ messages_in files [] = Some []
 messages_in files (m ∷ ms) = with_message m.given (files m.from) (messages_in files ms)
 
 -- the lines of what was found, with so many leaves
-abbrev pub lines_of : (count : ℕ) → List Audited → Effect
-lines_of count found =
+abbrev pub audit_lines_effect : (count : ℕ) → List Audited → Effect
+audit_lines_effect count found =
     record { code = audit_status found; output = audit_lines count found; report = [] }
 
 -- X3, where a message isn't there; else what is found of each, by the keys of each leaf
 abbrev pub audited_all : List (List WrapKeyValue) → Option (List Message) → Effect
 audited_all leaves None = refused [] (failures.Outside outsides.ShelfFault)
-audited_all leaves (Some messages) = lines_of (length leaves) (map (audited leaves) messages)
+audited_all leaves (Some messages) =
+    audit_lines_effect (length leaves) (map (audited leaves) messages)
 
 -- the file of the audit, the keyring file that it names, and the messages
 unfoldable pub audit_effect : (name : List ℕ) → Trees → World → Option Effect
-audit_effect name trees world = with_file (world.files name) (λ bytes. with_value (audit_of bytes)
+audit_effect name trees world =
+    with_file (world.files name) (λ bytes. with_value_read (audit_of bytes)
     (λ file. with_file (world.files file.keyring) (λ ring. with_read (trees.read ring)
-    (λ tree. with_value (trees.leaves ring)
+    (λ tree. with_value_read (trees.leaves ring)
     (λ leaves. with_told (told_by leaves)
     (λ keys. audited_all keys (messages_in world.files file.messages)))))))
 
@@ -310,7 +314,7 @@ audit_effect name trees world = with_file (world.files name) (λ bytes. with_val
 -- the keyring file written anew, in version 2
 unfoldable pub migrate_effect : MigrateWords → World → Option Effect
 migrate_effect asked world = with_file (world.files asked.keyring)
-    (λ bytes. with_value (value_asked asked bytes)
+    (λ bytes. with_value_read (value_asked asked bytes)
     (λ value. Some (done_with (compact_text value ++ 10 ∷ []) [])))
 
 -- ---- all commands
@@ -330,4 +334,5 @@ effect_of (Err fault) trees world = Some (refused [] (words_failure fault))
 
 -- Over each world that what came is of, the run did what the program does there, or was disturbed.
 abbrev pub Does : Run → Type 0
-Does r = (world : World) → IsOf r world → IfSome (effect_of r.words r.trees world) (ComesTo r world)
+Does r =
+    (world : World) → IsOf r world → IfSome (effect_of r.words r.trees world) (RunComesTo r world)

@@ -26,14 +26,14 @@ hex_word n = 32 ∷ digit_char (n / 4096) ∷ digit_char (n / 256 % 16) ∷ digi
     ∷ digit_char (n % 16) ∷ []
 
 -- a space, and what is wrong with the bytes of a context
-unfoldable pub kind_word : ContextFault → List ℕ
-kind_word kind = 32 ∷ kind_name kind
+unfoldable pub fault_kind_word : ContextFault → List ℕ
+fault_kind_word kind = 32 ∷ kind_name kind
 
 -- the values of a fault of a message
 unfoldable pub fault_values : Fault → List ℕ
 fault_values (faults.BadVersion version) = number_word version
 fault_values (faults.UnsupportedSuite suite) = hex_word suite
-fault_values (faults.BadContext kind) = kind_word kind
+fault_values (faults.BadContext kind) = fault_kind_word kind
 fault_values faults.NoDataKeys = []
 fault_values (faults.TooManyDataKeys count) = number_word count
 fault_values (faults.BadContentType kind) = number_word kind

@@ -13,15 +13,15 @@ use Rattle.esdk_report.specs.declared.failure.Failure.TheVariants as failures
 use Rattle.esdk_report.specs.ContextLine.{context_json}
 
 -- the line of a failure, without `esdk: ` and without its line feed
-abbrev pub line_of : Failure → List ℕ
-line_of failures.NotRead = codes "words NotRead"
-line_of (failures.BadNumber name) = codes "words BadNumber " ++ option_text name
-line_of (failures.BadPair number) = codes "words BadPair " ++ decimal number
-line_of (failures.Fault fault) = fault_line fault
-line_of (failures.File refusal) = file_line refusal
-line_of (failures.Outside outside) = outside_line outside
-line_of (failures.Refusal refusal) = refusal_line refusal
-line_of failures.Memory = codes "Memory"
+abbrev pub failure_line : Failure → List ℕ
+failure_line failures.NotRead = codes "words NotRead"
+failure_line (failures.BadNumber name) = codes "words BadNumber " ++ option_text name
+failure_line (failures.BadPair number) = codes "words BadPair " ++ decimal number
+failure_line (failures.Fault fault) = fault_line fault
+failure_line (failures.File refusal) = file_line refusal
+failure_line (failures.Outside outside) = outside_line outside
+failure_line (failures.Refusal refusal) = refusal_line refusal
+failure_line failures.Memory = codes "Memory"
 
 -- what is shown of a failure as an error: as its line begins
 unfoldable pub failure_text : Failure → List ℕ
@@ -35,26 +35,26 @@ failure_text (failures.Refusal refusal) = refusal_name refusal
 failure_text failures.Memory = codes "memory ran out"
 
 -- the exit status of a failure
-abbrev pub code_of : Failure → ℕ
-code_of failures.NotRead = 2
-code_of (failures.BadNumber name) = 2
-code_of (failures.BadPair number) = 2
-code_of (failures.Fault fault) = 1
-code_of (failures.File refusal) = 3
-code_of (failures.Outside outside) = 4
-code_of (failures.Refusal refusal) = 6
-code_of failures.Memory = 5
+abbrev pub failure_status : Failure → ℕ
+failure_status failures.NotRead = 2
+failure_status (failures.BadNumber name) = 2
+failure_status (failures.BadPair number) = 2
+failure_status (failures.Fault fault) = 1
+failure_status (failures.File refusal) = 3
+failure_status (failures.Outside outside) = 4
+failure_status (failures.Refusal refusal) = 6
+failure_status failures.Memory = 5
 
 -- The report gained these bytes, or a front of them where its count of faults rose.
-pub record Gains (bytes : List ℕ) (old new : SinkState) : Type 0 where
+pub record ReportGains (bytes : List ℕ) (old new : SinkState) : Type 0 where
   pub later : old.faults ≤ new.faults
   pub front : AppendsFront old.written new.written bytes
   pub whole : Stayed old.faults new.faults → Appends old.written new.written bytes
 
 -- The status is this failure's, and the report gained the failure's line.
 pub record IsReported (failure : Failure) (code : ℕ) (old new : SinkState) : Type 0 where
-  pub status : code ≡ code_of failure
-  pub line : Gains (printed_line (line_of failure)) old new
+  pub status : code ≡ failure_status failure
+  pub line : ReportGains (printed_line (failure_line failure)) old new
 
 -- So it is, but that memory may be missing for the line of a bad pair, of a fault or of a refusal.
 abbrev pub Reports : Failure → ℕ → SinkState → SinkState → Type 0

@@ -3,7 +3,9 @@
 
 ghost use Rattle.std.specs.Prelude.{◌≡◌, ◌++◌, ◌<◌, IfOk, OnOk, OnErr};
 ghost use Rattle.std.specs.Char.{digit_char};
-ghost use Rattle.esdk_report.specs.Lines.{kind_word, number_word, text_word, hex_word, fault_line, fault_values, refusal_line, refusal_values, file_line, file_values, outside_line, printed_line};
+ghost use Rattle.esdk_report.specs.Lines.{fault_kind_word, number_word, text_word, hex_word};
+ghost use Rattle.esdk_report.specs.Lines.{fault_line, fault_values, refusal_line, refusal_values};
+ghost use Rattle.esdk_report.specs.Lines.{file_line, file_values, outside_line, printed_line};
 
 use esdk_fields::{Blob, ContextFault, Fault, FileRefusal, Outside, Refusal, Text};
 use serde_json::Value;
@@ -141,9 +143,9 @@ fn push_file_values(alloc: Global, line: &mut Blob, refusal: &FileRefusal) -> Re
     }
 }
 
-#[tactic(auto, using(std::proofs::Common::append_assoc), unfolding(crate::specs::Lines::kind_word))]
+#[tactic(auto, using(std::proofs::Common::append_assoc), unfolding(crate::specs::Lines::fault_kind_word))]
 fn push_kind(line: &mut Blob, kind: ContextFault) -> Result<(), AllocError>
-    ensures { OnOk result (line.new ≡ line.old ++ kind_word kind) }
+    ensures { OnOk result (line.new ≡ line.old ++ fault_kind_word kind) }
 {
     line.push_all(b" ")?;
     line.push_all(kind.name().as_bytes())

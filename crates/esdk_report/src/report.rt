@@ -1,8 +1,10 @@
 //! The line that a refusal leaves on the report, and the line of the context after a decryption.
 ghost use Rattle.std.specs.Prelude.{◌≡◌, List, IfOk, string_bytes};
 ghost use Rattle.context_codec.specs.Context.{KeyValue};
-ghost use Rattle.esdk_report.specs.Lines.{fault_line, file_line, outside_line, printed_line, refusal_line};
-ghost use Rattle.esdk_report.specs.Report.{IsReported, Gains, Reports, TellsContext, context_line, line_of};
+ghost use Rattle.esdk_report.specs.Lines.{fault_line, file_line, outside_line, printed_line};
+ghost use Rattle.esdk_report.specs.Lines.{refusal_line};
+ghost use Rattle.esdk_report.specs.Report.{IsReported, ReportGains, Reports, TellsContext};
+ghost use Rattle.esdk_report.specs.Report.{context_line, failure_line};
 ghost use Rattle.esdk_report.specs.declared.failure.Failure.TheVariants as failures;
 
 use crate::context_line::context_text;
@@ -142,7 +144,7 @@ fn line_of_refusal(alloc: Global, refusal: &Refusal) -> Result<Blob, AllocError>
 /// The whole line of an option whose number is refused, which takes no memory.
 #[tactic(auto, unfolding(crate::specs::Lines::printed_line))]
 fn line_of_number(name: OptionName) -> &'static [u8]
-    ensures { result.now ≡ printed_line (line_of (failures.BadNumber name)) }
+    ensures { result.now ≡ printed_line (failure_line (failures.BadNumber name)) }
 {
     match name {
         OptionName::Frame => b"esdk: words BadNumber --frame\n",
@@ -160,7 +162,7 @@ fn line_of_number(name: OptionName) -> &'static [u8]
 #[tactic(auto, unfolding(crate::specs::Lines::printed_line))]
 fn line_of_pair(alloc: Global, number: u32) -> Result<String, AllocError>
     ensures { IfOk result (λ line. string_bytes line ≡ printed_line
-        (line_of (failures.BadPair number))) }
+        (failure_line (failures.BadPair number))) }
 {
     format!(in alloc; "esdk: words BadPair {number}\n")
 }
@@ -182,7 +184,7 @@ fn line_of_outside(outside: Outside) -> &'static [u8]
 
 /// Puts a whole line on the report, whose failure changes nothing.
 fn put_line<R: Sink>(line: &[u8], report: &mut R)
-    ensures { Gains line.now (R.state report.old) (R.state report.new) }
+    ensures { ReportGains line.now (R.state report.old) (R.state report.new) }
 {
     let _ = report.put(line);
 }

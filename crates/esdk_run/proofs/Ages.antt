@@ -1,6 +1,6 @@
 -- What a batch's report shows of the ages of its cache's entries.
 use Rattle.std.proofs.Common.{◌≡◌, ◌∙◌, ℕ, List, [], ◌++◌, Ok, Err, inl, inr, sym, ap, subst}
-use Rattle.std.specs.Prelude.{IfOk}
+use Rattle.std.specs.Prelude.{IfOk, ◌⊎◌}
 use Rattle.std.specs.declared.option.Option.{Option}
 use Rattle.std.specs.declared.result.Result.{Result}
 use Rattle.esdk_base.specs.Shelf.{Files}
@@ -15,7 +15,7 @@ use Rattle.keyring_trait.specs.Saying.{Saying}
 use Rattle.esdk_batch.specs.Moments.{ReadsClock}
 use Rattle.esdk_report.specs.declared.failure.Failure.{Failure}
 use Rattle.esdk_report.specs.Report.{Reports}
-use Rattle.esdk_run.specs.Ages.{KeepsAges, ServesInTime, ShowsAges}
+use Rattle.esdk_run.specs.Ages.{ServesInTime, ShowsAges}
 use Rattle.esdk_run.proofs.Showing.{each_has_a_line}
 use Rattle.esdk_run.proofs.Statuses.{not_done, not_seven}
 
@@ -37,10 +37,10 @@ serves_in_time manager file old new entropy spent before after shown clock ticke
 -- ---- a run of `batch`, as its command ends it
 
 pub ages_kept : (name other : List ℕ) (shelf : ShelfState) (output put : SinkState) (clock ticked : ClockState) (code : ℕ) → other ≡ name
-    → ShowsAges other shelf output put clock ticked → KeepsAges name shelf output put clock ticked code
+    → ShowsAges other shelf output put clock ticked → (code ≡ 0) ⊎ (code ≡ 7) → ShowsAges name shelf output put clock ticked
 ages_kept name other shelf output put clock ticked code same shows = λ reported. subst (λ (n : List ℕ). ShowsAges n shelf output put clock ticked) same shows
 
 pub no_ages : (name : List ℕ) (shelf : ShelfState) (output put report reported : SinkState) (clock ticked : ClockState) (code : ℕ) (failure : Failure) → Reports failure code report reported
-    → KeepsAges name shelf output put clock ticked code
+    → (code ≡ 0) ⊎ (code ≡ 7) → ShowsAges name shelf output put clock ticked
 no_ages name shelf output put report reported clock ticked code failure said (inl zero) = absurd (not_done failure code report reported said zero)
 no_ages name shelf output put report reported clock ticked code failure said (inr seven) = absurd (not_seven failure code report reported said seven)

@@ -4,7 +4,7 @@ use Rattle.std.proofs.lemmas.List.{append_assoc, length-append}
 use Rattle.std.proofs.lemmas.Result.{on_ok_weaker, IfErr-weaker}
 use Rattle.std.proofs.Math.Seq.{take-append-add}
 use Rattle.std.specs.Io.KnownBytes.{Appends}
-use Rattle.esdk_base.specs.Receiver.{SinkFails, SinkTakes}
+use Rattle.esdk_base.specs.Receiver.{SinkFails, SinkTakes, PutsAll}
 use Rattle.esdk_base.specs.ReceiverLaws.{takes_more}
 use Rattle.esdk_base.specs.Streams.{EntropyState, SinkState, SourceState}
 use Rattle.esdk_fields.specs.declared.refusals.Outside.TheVariants as outsides
@@ -19,11 +19,11 @@ use Rattle.whole_input.specs.Written.{WritesBeyond}
 use Rattle.whole_input.proofs.Fronts.{beyond_after}
 use Rattle.esdk_encrypt.specs.declared.errors.EncryptError.{EncryptError}
 use Rattle.esdk_encrypt.specs.declared.errors.EncryptError.TheVariants as errors
-use Rattle.esdk_encrypt.specs.Encrypt.{Asked, Encrypts, EncryptEnds}
-use Rattle.esdk_encrypt.specs.Gaining.{Extent, FailsBeyond, Front, Gaining, KeepsFronts, Whole, as_bytes, gained_as, gaining, sink_fails, sink_takes}
+use Rattle.esdk_encrypt.specs.Encrypt.{EncryptAsked, Encrypts, EncryptEnds}
+use Rattle.esdk_encrypt.specs.Gaining.{Extent, FailsBeyond, Front, Gaining, KeepsFronts, Whole, as_bytes, gained_as, gaining, sink_fails}
 use Rattle.esdk_encrypt.proofs.GainsMore.{encrypts_as, encrypts_not, ends_as, ends_so}
 use Rattle.esdk_encrypt.proofs.SinkGains.{bytes_keep_fronts, sink_gains}
-use Rattle.esdk_run.specs.ArmouredMessage.{as_armour, form_of}
+use Rattle.esdk_run.specs.ArmouredMessage.{as_armour, output_form}
 
 -- ---- the form
 
@@ -37,7 +37,7 @@ text_of_front front more =
     sym (lines_and_rest (front ++ more)) ∙ ap (λ (x : List ℕ). x ++ armour_text (open_line (front ++ more))) (lines_of_front front more)
     ∙ append_assoc (full_lines_text front) (full_lines_text (open_line front ++ more)) (armour_text (open_line (front ++ more)))
 
-pub forms_keep_fronts : (armour : Bool) → KeepsFronts (form_of armour)
+pub forms_keep_fronts : (armour : Bool) → KeepsFronts (output_form armour)
 forms_keep_fronts true = record { goes_on = λ front more. (_, lines_of_front front more); ends = λ front more. (_, text_of_front front more) }
 forms_keep_fronts false = bytes_keep_fronts
 
@@ -125,25 +125,25 @@ beyond_sooner output put first more all writes = record {
 
 -- what an armoured output gained over a sink
 abbrev pub armour_gaining : {R : Type 0} → (R → SinkState) → ArmouredOutput R → ArmouredOutput R → Gaining
-armour_gaining state old new = gaining (armoured_takes (sink_takes state)) (armoured_fails (sink_fails state)) old new
+armour_gaining state old new = gaining (armoured_takes (PutsAll state)) (armoured_fails (sink_fails state)) old new
 
 module _ {R : Type 0} (state : R → SinkState) (old mid : ArmouredOutput R) (empty : held_of old.armour ≡ []) where
   -- while the message goes on, the sink gained its full lines
   pub front_gained : (bytes : List ℕ) → (armour_gaining state old mid).took Front bytes → (gained_as as_armour (state old.output.now) (state mid.output.now)).took Front bytes
-  front_gained bytes took = (lines_taken (sink_takes state) old mid empty bytes took).gained
+  front_gained bytes took = (lines_taken (PutsAll state) old mid empty bytes took).gained
 
   pub stop_gained : (extent : Extent) (first all : List ℕ) → (armour_gaining state old mid).stopped extent first all
       → (gained_as as_armour (state old.output.now) (state mid.output.now)).stopped extent first all
   stop_gained extent first all beyond =
-      (sink_gains state old.output.now mid.output.now).stopped extent (as_armour Front first) (as_armour extent all) (armour_fails (sink_takes state) (sink_fails state) old mid empty first all beyond extent)
+      (sink_gains state old.output.now mid.output.now).stopped extent (as_armour Front first) (as_armour extent all) (armour_fails (PutsAll state) (sink_fails state) old mid empty first all beyond extent)
 
   module _ (new : SinkState) where
     -- with the open line it gained all of the text
     pub whole_gained : (bytes : List ℕ) → SinkTakes (state mid.output.now) new (armour_text (held_of mid.armour)) → (armour_gaining state old mid).took Whole bytes
         → (gained_as as_armour (state old.output.now) new).took Whole bytes
     whole_gained bytes line took =
-        let is : held_of mid.armour ≡ open_line bytes = line_held (sink_takes state) old mid empty bytes took in
-        let all = takes_more (state old.output.now) (state mid.output.now) new (full_lines_text bytes) (armour_text (held_of mid.armour)) (lines_taken (sink_takes state) old mid empty bytes took) line in
+        let is : held_of mid.armour ≡ open_line bytes = line_held (PutsAll state) old mid empty bytes took in
+        let all = takes_more (state old.output.now) (state mid.output.now) new (full_lines_text bytes) (armour_text (held_of mid.armour)) (lines_taken (PutsAll state) old mid empty bytes took) line in
         subst (λ (text : List ℕ). Appends (state old.output.now).written new.written text)
         (ap (λ (x : List ℕ). full_lines_text bytes ++ armour_text x) is ∙ lines_and_rest bytes) all.gained
 
@@ -153,9 +153,9 @@ module _ {R : Type 0} (state : R → SinkState) (old mid : ArmouredOutput R) (em
         → (gained_as as_armour (state old.output.now) new).stopped Whole first all
     end_fails some line first all more are took =
         let output : SinkState = state old.output.now in
-        let lines = lines_taken (sink_takes state) old mid empty all took in
+        let lines = lines_taken (PutsAll state) old mid empty all took in
         let whole : full_lines_text all ++ armour_text (held_of mid.armour) ≡ armour_text all =
-        ap (λ (x : List ℕ). full_lines_text all ++ armour_text x) (line_held (sink_takes state) old mid empty all took) ∙ lines_and_rest all in
+        ap (λ (x : List ℕ). full_lines_text all ++ armour_text x) (line_held (PutsAll state) old mid empty all took) ∙ lines_and_rest all in
         let front : full_lines_text all ≡ full_lines_text first ++ full_lines_text (open_line first ++ more) = ap full_lines_text are ∙ lines_of_front first more in
         let last : WritesBeyond output new (full_lines_text all) (armour_text all) =
         subst (λ (text : List ℕ). WritesBeyond output new (full_lines_text all) text) whole
@@ -166,27 +166,27 @@ module _ {R : Type 0} (state : R → SinkState) (old mid : ArmouredOutput R) (em
         )
 
 -- a sink that takes the message itself gains its bytes
-module _ {R : Type 0} (state : R → SinkState) (old new : R) (asked : Asked) (input taken : SourceState) (entropy spent : EntropyState) where
-  pub sink_done : (r : Result (Unit {0}) EncryptError) → OnOk r (Encrypts asked input taken (gaining (sink_takes state) (sink_fails state) old new) entropy spent)
+module _ {R : Type 0} (state : R → SinkState) (old new : R) (asked : EncryptAsked) (input taken : SourceState) (entropy spent : EntropyState) where
+  pub sink_done : (r : Result (Unit {0}) EncryptError) → OnOk r (Encrypts asked input taken (gaining (PutsAll state) (sink_fails state) old new) entropy spent)
       → OnOk r (Encrypts asked input taken (gained_as as_bytes (state old) (state new)) entropy spent)
   sink_done r done =
-      on_ok_weaker r (λ (encrypts : Encrypts asked input taken (gaining (sink_takes state) (sink_fails state) old new) entropy spent).
-      encrypts_as (gaining (sink_takes state) (sink_fails state) old new) (gained_as as_bytes (state old) (state new)) asked input taken entropy spent encrypts
+      on_ok_weaker r (λ (encrypts : Encrypts asked input taken (gaining (PutsAll state) (sink_fails state) old new) entropy spent).
+      encrypts_as (gaining (PutsAll state) (sink_fails state) old new) (gained_as as_bytes (state old) (state new)) asked input taken entropy spent encrypts
       (λ bytes took. (sink_gains state old new).took Whole bytes took)) done
 
   pub sink_ended : (untouched unasked : Type 0) (r : Result (Unit {0}) EncryptError)
-      → IfErr r (λ error. EncryptEnds asked input taken (gaining (sink_takes state) (sink_fails state) old new) entropy spent untouched unasked error)
+      → IfErr r (λ error. EncryptEnds asked input taken (gaining (PutsAll state) (sink_fails state) old new) entropy spent untouched unasked error)
       → IfErr r (λ error. EncryptEnds asked input taken (gained_as as_bytes (state old) (state new)) entropy spent untouched unasked error)
   sink_ended untouched unasked r ends =
-      IfErr-weaker r (EncryptEnds asked input taken (gaining (sink_takes state) (sink_fails state) old new) entropy spent untouched unasked)
+      IfErr-weaker r (EncryptEnds asked input taken (gaining (PutsAll state) (sink_fails state) old new) entropy spent untouched unasked)
       (EncryptEnds asked input taken (gained_as as_bytes (state old) (state new)) entropy spent untouched unasked)
-      (λ error why. ends_as (gaining (sink_takes state) (sink_fails state) old new) (gained_as as_bytes (state old) (state new)) (λ bytes took. (sink_gains state old new).took Front bytes took)
+      (λ error why. ends_as (gaining (PutsAll state) (sink_fails state) old new) (gained_as as_bytes (state old) (state new)) (λ bytes took. (sink_gains state old new).took Front bytes took)
       (λ extent first all stops. (sink_gains state old new).stopped extent first all stops) input taken asked entropy spent untouched unasked error why) ends
 
 -- ---- what was left untouched
 
 -- where nothing was taken or written, what that says of one output it says of another
-pub ends_untouched : (asked : Asked) (input taken : SourceState) (gains : Gaining) (entropy spent : EntropyState) (from to unasked : Type 0) (error : EncryptError) → (from → to)
+pub ends_untouched : (asked : EncryptAsked) (input taken : SourceState) (gains : Gaining) (entropy spent : EntropyState) (from to unasked : Type 0) (error : EncryptError) → (from → to)
     → EncryptEnds asked input taken gains entropy spent from unasked error → EncryptEnds asked input taken gains entropy spent to unasked error
 ends_untouched asked input taken gains entropy spent from to unasked (errors.Outside outsides.EntropyFault) so ends =
     record { rose = ends.rose; kept = ends.kept; none = ends.none; same = so ends.same; manager = ends.manager }
@@ -218,7 +218,7 @@ ends_untouched asked input taken gains entropy spent from to unasked errors.Memo
 
 -- ---- how the writing of an armoured message ended
 
-module _ {R : Type 0} (state : R → SinkState) (before : R) (old mid : ArmouredOutput R) (asked : Asked) (input taken : SourceState) (entropy spent : EntropyState) where
+module _ {R : Type 0} (state : R → SinkState) (before : R) (old mid : ArmouredOutput R) (asked : EncryptAsked) (input taken : SourceState) (entropy spent : EntropyState) where
   -- the receiver is lent by the same name still
   pub lent_done : Encrypts asked input taken (armour_gaining state old mid) entropy spent → mid.output.ghost_name ≡ old.output.ghost_name
   lent_done encrypts = encrypts.writes.gained.0

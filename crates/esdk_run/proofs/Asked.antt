@@ -1,6 +1,7 @@
 -- What a run comes to whose words ask for this.
 use Rattle.std.proofs.Common.{◌≡◌, ℕ, List, Ok, subst}
 use Rattle.std.specs.declared.result.Result.{Result}
+use Rattle.std.specs.Prelude.{◌⊎◌}
 use Rattle.esdk_args.specs.declared.request.DecryptWords.{DecryptWords}
 use Rattle.esdk_args.specs.declared.request.EncryptWords.{EncryptWords}
 use Rattle.esdk_args.specs.declared.request.ExtractWords.{ExtractWords}
@@ -9,13 +10,12 @@ use Rattle.esdk_args.specs.declared.request.Request.{Request}
 use Rattle.esdk_args.specs.declared.request.ResealWords.{ResealWords}
 use Rattle.esdk_args.specs.declared.request.Request.TheVariants as requests
 use Rattle.esdk_args.specs.declared.request.WordsFault.{WordsFault}
-use Rattle.esdk_run.specs.AuditTold.{AuditsWhatIsHeld, SaysTheOpeners}
-use Rattle.esdk_run.specs.EachJob.{DoesWhatItMust, SaysEachJudgement}
+use Rattle.esdk_run.specs.EachJob.{ShowsJudgements}
 use Rattle.esdk_run.specs.Objects.{Objects, Unchanged, without_entropy}
 use Rattle.esdk_run.specs.Run.{AuditRuns, BatchRuns, DecryptRuns, EncryptRuns, ExtractRuns, GenRuns, MigrateRuns, ResealRuns, RunsAs}
-use Rattle.esdk_run.specs.Served.{Generates, KeepsLimits, KeepsOtherFiles, RunsWhatIsHeld}
-use Rattle.esdk_run.specs.Told.{DecryptsWholeMessages, MigratesWhatIsHeld, ReadsBack, SaysTheJudgement, SaysWhatItReads}
+use Rattle.esdk_run.specs.Served.{Generates, ShowsLimits}
 use Rattle.esdk_run.specs.Trees.{Trees}
+use Rattle.esdk_run.proofs.Promised.{SaysWhatItReads, SaysTheJudgement, DecryptsWholeMessages, ReadsBack, MigratesWhatIsHeld, RunsWhatIsHeld, DoesWhatItMust, SaysTheOpeners, AuditsWhatIsHeld}
 use Rattle.esdk_run.proofs.AuditDone.{audits_what_is_held}
 use Rattle.esdk_run.proofs.Auditing.{says_the_openers}
 use Rattle.esdk_run.proofs.Batches.{generates, keeps_limits, keeps_other_files, runs_what_is_held}
@@ -23,6 +23,7 @@ use Rattle.esdk_run.proofs.DoneJobs.{does_what_it_must}
 use Rattle.esdk_run.proofs.EachJob.{says_each_judgement}
 use Rattle.esdk_run.proofs.Decryption.{decrypts_whole_messages, reads_back, says_the_judgement, says_what_it_reads}
 use Rattle.esdk_run.proofs.Migration.{migrates_what_is_held}
+use Rattle.esdk_run.specs.Batch.{ChangesOnlyWritten}
 
 pub encrypt_asked : (trees : Trees) (words : Result Request WordsFault) (asked : EncryptWords) (before after : Objects) (unchanged : Unchanged) (code : ℕ)
     → words ≡ Ok (requests.Encrypt asked) → RunsAs trees words before after unchanged code
@@ -101,13 +102,13 @@ migration_asked trees words asked before after unchanged code is runs =
 
 pub limits_asked : (trees : Trees) (words : Result Request WordsFault) (name : List ℕ) (before after : Objects) (unchanged : Unchanged) (code : ℕ)
     → words ≡ Ok (requests.Batch name) → RunsAs trees words before after unchanged code
-    → KeepsLimits name before after code
+    → (code ≡ 0) ⊎ (code ≡ 7) → ShowsLimits name before after
 limits_asked trees words name before after unchanged code is runs =
     keeps_limits trees name before after unchanged code (batch_asked trees words name before after unchanged code is runs)
 
 pub others_asked : (trees : Trees) (words : Result Request WordsFault) (name : List ℕ) (before after : Objects) (unchanged : Unchanged) (code : ℕ)
     → words ≡ Ok (requests.Batch name) → RunsAs trees words before after unchanged code
-    → KeepsOtherFiles name before.shelf after.shelf
+    → (after.shelf.files ≡ before.shelf.files) ⊎ ChangesOnlyWritten name before.shelf after.shelf
 others_asked trees words name before after unchanged code is runs =
     keeps_other_files trees name before after unchanged code (batch_asked trees words name before after unchanged code is runs)
 
@@ -119,7 +120,7 @@ jobs_asked trees words name before after unchanged code is runs =
 
 pub judgements_asked : (trees : Trees) (words : Result Request WordsFault) (name : List ℕ) (before after : Objects) (unchanged : Unchanged) (code : ℕ)
     → words ≡ Ok (requests.Batch name) → RunsAs trees words before after unchanged code
-    → SaysEachJudgement trees name before after code
+    → (code ≡ 0) ⊎ (code ≡ 7) → ShowsJudgements trees name before after
 judgements_asked trees words name before after unchanged code is runs =
     says_each_judgement trees name before after unchanged code (batch_asked trees words name before after unchanged code is runs)
 

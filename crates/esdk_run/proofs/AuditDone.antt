@@ -25,11 +25,12 @@ use Rattle.esdk_report.specs.Report.{Reports}
 use Rattle.esdk_report.specs.declared.failure.Failure.{Failure}
 use Rattle.esdk_report.specs.declared.failure.Failure.TheVariants as failures
 use Rattle.esdk_run.specs.Audit.{AuditEnds, AuditIs, Audits, FindsNotAll, HasNoAudit}
-use Rattle.esdk_run.specs.AuditTold.{AuditsWhatIsHeld, HasShortFiles, HoldsAudit}
+use Rattle.esdk_run.specs.AuditTold.{HasShortFiles, HoldsAudit}
 use Rattle.esdk_run.specs.Objects.{Objects, Unchanged}
 use Rattle.esdk_run.specs.Run.{AuditRuns}
-use Rattle.esdk_run.specs.Told.{WhereNoneFailed}
+use Rattle.esdk_run.specs.Told.{TreeIsLeftAnd}
 use Rattle.esdk_run.specs.Trees.{TreeGoes, Trees}
+use Rattle.esdk_run.proofs.Promised.{AuditsWhatIsHeld}
 use Rattle.esdk_run.proofs.Auditing.{read_as_held}
 use Rattle.esdk_run.proofs.Files.{file_is_held, no_read_fails, not_refused}
 use Rattle.esdk_run.proofs.Statuses.{memory_status}
@@ -127,7 +128,7 @@ module _ (trees : Trees) (name : List ℕ) (old new : ShelfState) (tree : Keyrin
       not_endless first.between new first.message.from still.0.bytes still.0.holds still.0.short first.fails
 
   -- where a leaf failed, the count of the tree says so
-  leaf_failed : (So : Type 0) → FindsNotAll trees name old new (failures.Outside outsides.KeyringFault) → WhereNoneFailed trees tree So
+  leaf_failed : (So : Type 0) → FindsNotAll trees name old new (failures.Outside outsides.KeyringFault) → TreeIsLeftAnd trees tree So
   leaf_failed So all =
       let first = all.fails in
       let same = read_as_held trees name old all.read all.file all.audits.tree tree all.leaves told messages all.audits.has held in
@@ -142,7 +143,7 @@ module _ (trees : Trees) (name : List ℕ) (old new : ShelfState) (tree : Keyrin
 failing_audit : (trees : Trees) (name : List ℕ) (before after : Objects) (unwritten : Type 0) (code : ℕ) (tree : KeyringMeaning) (told : List (List WrapKeyValue)) (messages : List Message) (failure : Failure)
     (held : HoldsAudit trees before.shelf.files name tree told messages) → HasShortFiles held.bytes held.keyring messages → Stayed before.shelf.faults after.shelf.faults → Stayed before.output.faults after.output.faults
     → AuditEnds trees name before.shelf after.shelf before.output after.output unwritten failure → Reports failure code before.report after.report
-    → (code ≡ 5) ⊎ WhereNoneFailed trees tree ((code ≡ 0) ⊎ (code ≡ 7))
+    → (code ≡ 5) ⊎ TreeIsLeftAnd trees tree ((code ≡ 0) ⊎ (code ≡ 7))
 failing_audit trees name before after unwritten code tree told messages failures.NotRead held short reading writing fails said = absurd fails.0
 failing_audit trees name before after unwritten code tree told messages (failures.BadNumber option) held short reading writing fails said = absurd fails.0
 failing_audit trees name before after unwritten code tree told messages (failures.BadPair number) held short reading writing fails said = absurd fails.0

@@ -19,7 +19,7 @@ use Rattle.multi_keyring.specs.declared.tree.Node.TheVariants.{Handed, Multi, Ra
 use Rattle.job_file.specs.declared.audit.AuditMessage.{AuditMessage}
 use Rattle.job_file.specs.AuditFile.{AuditFile}
 use Rattle.job_file.specs.Audit.{audit_of}
-use Rattle.job_file.specs.Found.{Reads}
+use Rattle.job_file.specs.Found.{MeansThis}
 use Rattle.json_values.specs.declared.errors.ReadError.{ReadError}
 use Rattle.json_values.specs.declared.errors.ReadError.TheVariants as trees
 use Rattle.keyring_file.specs.declared.plugs.Plug.{Plug}
@@ -35,13 +35,14 @@ use Rattle.esdk_report.specs.Report.{Reports}
 use Rattle.esdk_report.specs.declared.failure.Failure.{Failure}
 use Rattle.esdk_report.specs.declared.failure.Failure.TheVariants as failures
 use Rattle.esdk_run.specs.Audit.{AuditEnds, AuditFails, AuditIs, Audits, FindsAll, FindsNotAll, HasAudit, HasNoAudit, WritesAudit, audit_status}
-use Rattle.esdk_run.specs.AuditTold.{HoldsAudit, SaysTheOpeners, ShowsOpeners}
+use Rattle.esdk_run.specs.AuditTold.{HoldsAudit, ShowsOpeners}
 use Rattle.esdk_run.specs.Failures.{tree_failure}
 use Rattle.esdk_run.specs.FileReading.{FileFails, ReadCause}
 use Rattle.esdk_run.specs.Objects.{Objects, Unchanged}
 use Rattle.esdk_run.specs.Run.{AuditRuns, AuditsBy, is_status}
 use Rattle.esdk_run.specs.TextPut.{TextFails}
 use Rattle.esdk_run.specs.Trees.{TreeGoes, TreeHas, Trees, trees_of}
+use Rattle.esdk_run.proofs.Promised.{SaysTheOpeners}
 use Rattle.esdk_run.proofs.Files.{file_is_held}
 use Rattle.esdk_run.proofs.Statuses.{jobs_status, not_done, not_seven}
 use Rattle.esdk_run.proofs.Preparing.{by_file}
@@ -50,7 +51,7 @@ use Rattle.esdk_run.proofs.Preparing.{by_file}
 
 -- a file of an audit that is refused
 pub audit_refused : (bytes : List ℕ) (error : ReadError) (failure : Failure) → failure ≡ tree_failure error
-    → Reads {A = AuditFile} (λ audit. audit) (Err error) (audit_of bytes) → ReadCause audit_of bytes failure
+    → MeansThis {A = AuditFile} (λ audit. audit) (Err error) (audit_of bytes) → ReadCause audit_of bytes failure
 audit_refused bytes (trees.File refusal) failure is reads = subst (λ (f : Failure). ReadCause audit_of bytes f) (sym is) reads
 audit_refused bytes trees.Memory failure is reads = subst (λ (f : Failure). ReadCause audit_of bytes f) (sym is) tt
 

@@ -8,7 +8,8 @@ use Rattle.esdk_fields.specs.declared.refusals.Refusal.TheVariants as refusals
 use Rattle.esdk_fields.specs.Place.{start}
 use Rattle.esdk_fields.specs.Reading.{Reading, Read, Refused, Wanting}
 use Rattle.context_codec.specs.Context.{KeyValue}
-use Rattle.header_codec.specs.Table.{Head, header}
+use Rattle.header_codec.specs.Table.{HeaderFields, header}
+use Rattle.header_codec.specs.Header.{no_limits}
 use Rattle.keyring_trait.specs.declared.journal.JournalLine.{JournalLine}
 use Rattle.keyring_trait.specs.declared.manager_errors.ManagerError.{ManagerError}
 use Rattle.keyring_trait.specs.declared.manager_errors.ManagerError.TheVariants as managers
@@ -17,7 +18,7 @@ use Rattle.keyring_trait.specs.Materials.{EncMaterialsValue}
 use Rattle.keyring_trait.specs.Requests.{DecRequestValue}
 use Rattle.keyring_trait.specs.Saying.{Admits, Saying}
 use Rattle.keyring_trait.specs.Unlocking.{Unlocking, Refuses, Unlocks}
-use Rattle.esdk_encrypt.specs.Encrypt.{draws}
+use Rattle.esdk_encrypt.specs.Encrypt.{drawn_count}
 use Rattle.esdk_decrypt.specs.Decrypt.{Answering, AnswersReading, AnswersRequest, AnswersTo, FailsReading, answers_at}
 use Rattle.esdk_decrypt.proofs.Told.{Allows}
 use Rattle.job_file.specs.declared.job.Job.{Job}
@@ -27,9 +28,9 @@ use Rattle.job_file.specs.JobFile.{JobFile}
 use Rattle.batch_report.specs.declared.job_lines.JobLine.{JobLine}
 use Rattle.batch_report.specs.declared.job_lines.JobEnd.{JobEnd}
 use Rattle.batch_report.specs.declared.job_lines.JobEnd.TheVariants as ends
-use Rattle.esdk_batch.specs.Answering.{HasAnswer, HasFailed, no_limits, serving}
+use Rattle.esdk_batch.specs.Answering.{HasAnswer, HasFailed, serving}
 use Rattle.esdk_batch.specs.SealStory as seals
-use Rattle.esdk_batch.specs.SealStory.{Seen, SealAsked, SealsSo, held}
+use Rattle.esdk_batch.specs.SealStory.{Seen, SealAsked, SealsSo, held_or_none}
 use Rattle.esdk_batch.specs.OpenStory as opens
 use Rattle.esdk_batch.specs.OpenStory.{OpensSo}
 use Rattle.esdk_batch.specs.Batch.{AllCome, RunsBatch, WorksSo, seen_of}
@@ -41,13 +42,13 @@ request_more from to request (Unlocks whole only key) allows answers =
     (answers.0, allows.finds request (record { context = whole; only = only; key = key; served = answers.0 }) answers.1)
 request_more from to request (Refuses fault) allows answers = allows.finds_none request (managers.Fault fault) answers
 
-reading_more : (from to : Answering) (given : List KeyValue) (b : List ℕ) (r : Reading Head) (answer : Unlocking) → Allows from to
+reading_more : (from to : Answering) (given : List KeyValue) (b : List ℕ) (r : Reading HeaderFields) (answer : Unlocking) → Allows from to
     → AnswersReading from given b r answer → AnswersReading to given b r answer
 reading_more from to given b (Read parts body) answer allows answers = request_more from to _ answer allows answers
 reading_more from to given b (Refused fault at) answer allows is = is
 reading_more from to given b Wanting answer allows is = is
 
-failing_more : (from to : Answering) (given : List KeyValue) (b : List ℕ) (r : Reading Head) → Allows from to → FailsReading from given b r → FailsReading to given b r
+failing_more : (from to : Answering) (given : List KeyValue) (b : List ℕ) (r : Reading HeaderFields) → Allows from to → FailsReading from given b r → FailsReading to given b r
 failing_more from to given b (Read parts body) allows fails = allows.finds_none _ managers.KeyringFault fails
 failing_more from to given b (Refused fault at) allows none = none
 failing_more from to given b Wanting allows none = none
@@ -81,8 +82,8 @@ has_failed_more from to given b admits has =
 -- ---- an encrypt job
 
 module _ (from to : Saying) (admits : Admits to from) (asked : SealAsked) (seen : Seen) where
-  given_more : (m : EncMaterialsValue) → seals.IsGiven from asked seen m → seals.IsGiven to asked seen m
-  given_more m is = record { count = is.count ∙ ap draws admits.wraps; moment = is.moment; given = admits.gives _ is.moment _ m is.given; served = is.served }
+  given_more : (m : EncMaterialsValue) → seals.JobIsGiven from asked seen m → seals.JobIsGiven to asked seen m
+  given_more m is = record { count = is.count ∙ ap drawn_count admits.wraps; moment = is.moment; given = admits.gives _ is.moment _ m is.given; served = is.served }
 
   sealed_front : seals.SealsFront from asked seen → seals.SealsFront to asked seen
   sealed_front is = record { materials = is.materials; given = given_more is.materials is.given; begins = is.begins; count = is.count; front = is.front }
@@ -104,7 +105,7 @@ module _ (from to : Saying) (admits : Admits to from) (asked : SealAsked) (seen 
   }
 
   none_given : (error : ManagerError) → seals.IsGivenNone from asked seen error → seals.IsGivenNone to asked seen error
-  none_given error is = record { count = is.count ∙ ap draws admits.wraps; cause = admits.gives_none _ error is.cause; unserved = is.unserved; same = is.same }
+  none_given error is = record { count = is.count ∙ ap drawn_count admits.wraps; cause = admits.gives_none _ error is.cause; unserved = is.unserved; same = is.same }
 
   left_more : (seen.to ≡ seen.before) ⊎ seals.SealsFront from asked seen → (seen.to ≡ seen.before) ⊎ seals.SealsFront to asked seen
   left_more (inl same) = inl same
@@ -133,16 +134,16 @@ module _ (from to : Saying) (admits : Admits to from) (given : List KeyValue) (s
   opened_front : opens.OpensFront from given seen → opens.OpensFront to given seen
   opened_front is = record {
     answer = is.answer;
-    answered = has_answer_more from to given (held seen.from) seen.served is.answer admits is.answered;
+    answered = has_answer_more from to given (held_or_none seen.from) seen.served is.answer admits is.answered;
     count = is.count;
     front = is.front;
   }
 
-  front_left : opens.LeavesFront from given seen → opens.LeavesFront to given seen
+  front_left : opens.OpenJobLeavesFront from given seen → opens.OpenJobLeavesFront to given seen
   front_left (inl nothing) = inl nothing
   front_left (inr front) = inr (opened_front front)
 
-  opened_more : (bytes : List ℕ) (answer : Unlocking) → opens.Opens from given seen bytes answer → opens.Opens to given seen bytes answer
+  opened_more : (bytes : List ℕ) (answer : Unlocking) → opens.JobOpens from given seen bytes answer → opens.JobOpens to given seen bytes answer
   opened_more bytes answer is =
       record { from = is.from; answered = has_answer_more from to given bytes seen.served answer admits is.answered; to = is.to }
 

@@ -30,9 +30,10 @@ use Rattle.esdk_run.specs.Objects.{Objects, Unchanged}
 use Rattle.esdk_run.specs.Run.{BatchRuns, Fails, GenRuns, RunsAllJobs, is_status}
 use Rattle.esdk_run.specs.Serving.{TreeOutlasts}
 use Rattle.esdk_run.specs.TextPut.{TextFails}
-use Rattle.esdk_run.specs.Served.{Generates, HoldsJobs, KeepsLimits, KeepsOtherFiles, RunsWhatIsHeld, ShowsLimits}
+use Rattle.esdk_run.specs.Served.{Generates, HoldsJobs, ShowsLimits}
 use Rattle.esdk_run.specs.Told.{HoldsTree, IsDoneOrMemory}
 use Rattle.esdk_run.specs.Trees.{IsLawful, IsUntouched, TreeIs, Trees}
+use Rattle.esdk_run.proofs.Promised.{RunsWhatIsHeld}
 use Rattle.esdk_run.proofs.Files.{file_is_held, held_is_read, held_is_taken, no_read_fails, not_refused}
 use Rattle.esdk_run.proofs.Preparing.{by_file}
 use Rattle.esdk_run.proofs.Showing.{each_has_a_line, shows_limits}
@@ -137,7 +138,7 @@ all_shown trees name before after code runs =
     }
 
 pub keeps_limits : (trees : Trees) (name : List ℕ) (before after : Objects) (unchanged : Unchanged) (code : ℕ)
-    → BatchRuns trees name before after unchanged code → KeepsLimits name before after code
+    → BatchRuns trees name before after unchanged code → (code ≡ 0) ⊎ (code ≡ 7) → ShowsLimits name before after
 keeps_limits trees name before after unchanged code (inl runs) reported = all_shown trees name before after code runs
 keeps_limits trees name before after unchanged code (inr fails) (inl zero) = absurd (not_done fails.failure code before.report after.report fails.said zero)
 keeps_limits trees name before after unchanged code (inr fails) (inr seven) = absurd (not_seven fails.failure code before.report after.report fails.said seven)
@@ -164,7 +165,7 @@ turns_change {new = new} turns = record {
 }
 
 failing_keeps : (trees : Trees) (name : List ℕ) (before after : Objects) (unwritten undrawn : Type 0) (failure : Failure)
-    → BatchFails trees name before after unwritten undrawn failure → KeepsOtherFiles name before.shelf after.shelf
+    → BatchFails trees name before after unwritten undrawn failure → (after.shelf.files ≡ before.shelf.files) ⊎ ChangesOnlyWritten name before.shelf after.shelf
 failing_keeps trees name before after unwritten undrawn failures.NotRead fails = absurd fails.0
 failing_keeps trees name before after unwritten undrawn (failures.BadNumber option) fails = absurd fails.0
 failing_keeps trees name before after unwritten undrawn (failures.BadPair number) fails = absurd fails.0
@@ -179,7 +180,7 @@ failing_keeps trees name before after unwritten undrawn failures.Memory (inl (in
 failing_keeps trees name before after unwritten undrawn failures.Memory (inr lacks, same) = inr (run_changes lacks.1)
 
 pub keeps_other_files : (trees : Trees) (name : List ℕ) (before after : Objects) (unchanged : Unchanged) (code : ℕ)
-    → BatchRuns trees name before after unchanged code → KeepsOtherFiles name before.shelf after.shelf
+    → BatchRuns trees name before after unchanged code → (after.shelf.files ≡ before.shelf.files) ⊎ ChangesOnlyWritten name before.shelf after.shelf
 keeps_other_files trees name before after unchanged code (inl runs) = inr (run_changes runs.runs)
 keeps_other_files trees name before after unchanged code (inr fails) =
     failing_keeps trees name before after unchanged.output unchanged.entropy fails.failure fails.because

@@ -28,9 +28,9 @@ use Rattle.cmm_default.specs.DefaultCmm.{default_now, default_tells}
 use Rattle.cmm_required.specs.RequiredCmm.{required_now}
 use Rattle.esdk_encrypt.specs.declared.errors.EncryptError.{EncryptError}
 use Rattle.esdk_encrypt.specs.declared.errors.EncryptError.TheVariants as errors
-use Rattle.esdk_encrypt.specs.Encrypt.{Asked, EncryptEnds, encryption_of}
+use Rattle.esdk_encrypt.specs.Encrypt.{EncryptAsked, EncryptEnds, encrypting_from}
 use Rattle.esdk_encrypt.specs.Gaining.{Gaining}
-use Rattle.esdk_encrypt.specs.Told.{NoneFor}
+use Rattle.esdk_encrypt.specs.Told.{NoneForRequest}
 use Rattle.esdk_encrypt.proofs.Telling.{SaysMore, ends_more}
 use Rattle.esdk_decrypt.specs.Decrypt.{Answering, answering_of}
 use Rattle.esdk_decrypt.proofs.Told.{Allows}
@@ -107,7 +107,7 @@ chain_gives asked context tree random m given =
     given.context (given.demanded is ∙ required_alone asked.pairs) given.count (given.plain refl) (given.fresh refl)
 
 chain_gives_none : (asked : EncryptWords) (context : List KeyValue) (tree left : KeyringMeaning) (keys : List (List ℕ)) (error : ManagerError)
-    → GivesNone (chain tree (required_in asked.pairs)) (chain left keys) (request_of context) error → NoneFor (refusal_asked asked context tree) tree.faults left.faults error
+    → GivesNone (chain tree (required_in asked.pairs)) (chain left keys) (request_of context) error → NoneForRequest (refusal_asked asked context tree) tree.faults left.faults error
 chain_gives_none asked context tree left keys (managers.Fault fault) cause = cause
 chain_gives_none asked context tree left keys (managers.Refusal refusal) cause =
     sym (chain_refusal asked context tree) ∙ cause.1 (chain_is_exact tree (required_in asked.pairs))
@@ -116,13 +116,13 @@ chain_gives_none asked context tree left keys managers.KeyringFault cause =
 chain_gives_none asked context tree left keys managers.Memory cause = tt
 
 -- what a chain that held the tree `node`, and then `left`, may have said last to this request
-abbrev asked_of_chain : EncryptWords → ManagerNow → ManagerNow → EncRequestValue → ℕ → Asked
-asked_of_chain asked old new r now = encryption_of (said_last old new) r now asked.frame asked.max_keys
+abbrev asked_of_chain : EncryptWords → ManagerNow → ManagerNow → EncRequestValue → ℕ → EncryptAsked
+asked_of_chain asked old new r now = encrypting_from (said_last old new) r now asked.frame asked.max_keys
 
 -- What is asked of the chain is what the words ask for, whose keys it requires. It held a tree and then `left`, of which `meaning` says what they mean.
 pub chain_says_more : {N : Type 0} (meaning : N → KeyringMeaning) (p q : N × List (List ℕ)) (r : EncRequestValue) (now : ℕ) (asked : EncryptWords)
     (context : List KeyValue) (left : N) → p.1 ≡ required_in asked.pairs → r ≡ request_of context → left ≡ q.0
-    → SaysMore (encryption_of (said_last (chain (meaning p.0) p.1) (chain (meaning q.0) q.1)) r now asked.frame asked.max_keys)
+    → SaysMore (encrypting_from (said_last (chain (meaning p.0) p.1) (chain (meaning q.0) q.1)) r now asked.frame asked.max_keys)
     (encrypt_asked asked context (meaning p.0) (meaning left))
 chain_says_more {N} meaning p q r now asked context left is_keys is_r is_left =
     let tree : KeyringMeaning = meaning p.0 in
@@ -154,7 +154,7 @@ chain_goes {N} meaning p q left is_left went =
     subst (λ (l : N). TreeGoes (meaning p.0) (meaning l)) (sym is_left) on
 
 -- what follows of a manager that wasn't asked
-pub ends_unasked : (asked : Asked) (input taken : SourceState) (gains : Gaining) (entropy spent : EntropyState) (untouched unasked still : Type 0) (error : EncryptError) → (unasked → still)
+pub ends_unasked : (asked : EncryptAsked) (input taken : SourceState) (gains : Gaining) (entropy spent : EntropyState) (untouched unasked still : Type 0) (error : EncryptError) → (unasked → still)
     → EncryptEnds asked input taken gains entropy spent untouched unasked error → EncryptEnds asked input taken gains entropy spent untouched still error
 ends_unasked asked input taken gains entropy spent untouched unasked still (errors.Outside outsides.EntropyFault) so ends =
     record { rose = ends.rose; kept = ends.kept; none = ends.none; same = ends.same; manager = so ends.manager }
@@ -166,7 +166,7 @@ ends_unasked asked input taken gains entropy spent untouched unasked still (erro
 ends_unasked asked input taken gains entropy spent untouched unasked still (errors.Refusal refusal) so ends = ends
 ends_unasked asked input taken gains entropy spent untouched unasked still errors.Memory so ends = ends
 
-pub errs_more : (a b : Asked) (input taken : SourceState) (gains : Gaining) (entropy spent : EntropyState) (untouched unasked still : Type 0) (r : Result (Unit {0}) EncryptError) → SaysMore a b → (unasked → still)
+pub errs_more : (a b : EncryptAsked) (input taken : SourceState) (gains : Gaining) (entropy spent : EntropyState) (untouched unasked still : Type 0) (r : Result (Unit {0}) EncryptError) → SaysMore a b → (unasked → still)
     → IfErr r (λ error. EncryptEnds a input taken gains entropy spent untouched unasked error) → IfErr r (EncryptEnds b input taken gains entropy spent untouched still)
 errs_more a b input taken gains entropy spent untouched unasked still (Ok done) more so ends = tt
 errs_more a b input taken gains entropy spent untouched unasked still (Err error) more so ends =

@@ -11,19 +11,19 @@ use Rattle.keyring_trait.specs.Keyring.{KeyringMeaning}
 use Rattle.keyring_trait.specs.Wrapping.{WrapKeyValue}
 use Rattle.esdk_decrypt.specs.declared.errors.DecryptError.{DecryptError}
 use Rattle.esdk_decrypt.specs.declared.errors.DecryptError.TheVariants as errors
-use Rattle.esdk_decrypt.specs.Decrypt.{DecryptEnds, HasFault}
+use Rattle.esdk_decrypt.specs.Decrypt.{DecryptEnds, DecryptFindsFault}
 use Rattle.esdk_decrypt.specs.Laws.{IsWrittenFor, Written, written_message}
-use Rattle.esdk_decrypt.specs.Told.{Reader, asked_by}
+use Rattle.esdk_decrypt.specs.Told.{Reader, decrypting_by}
 use Rattle.esdk_decrypt.proofs.RoundTrip.{text_decrypted, written_whole}
 use Rattle.esdk_decrypt.proofs.WholeInputs.{all_decrypted, first_fault, memory_alone}
 use Rattle.esdk_report.specs.declared.failure.Failure.{Failure}
 use Rattle.esdk_report.specs.declared.failure.Failure.TheVariants as failures
-use Rattle.esdk_run.specs.Decrypt.{decrypt_asked, limits_of, reader_of}
+use Rattle.esdk_run.specs.Decrypt.{decrypt_asked, decrypt_settings, reader_of}
 use Rattle.esdk_run.specs.Failures.{decryption_failure}
 use Rattle.esdk_run.specs.Objects.{Objects, Unchanged}
 use Rattle.esdk_report.specs.Report.{ShowsContext}
 use Rattle.esdk_run.specs.Run.{DecryptRuns, TellsOrLacksMemory}
-use Rattle.esdk_run.specs.Told.{DecryptsWholeMessages, GivesBack, IfNoneFailed, IsDoneOrMemory, NamesFault, NothingFails, Reads, ReadsBack, SaysTheJudgement, SaysWhatItReads, ShowsWhole}
+use Rattle.esdk_run.specs.Told.{GivesBack, TreeWasReadAnd, IsDoneOrMemory, NamesFault, StreamsDontFail, HasPairsAndKeys, ShowsWhole}
 use Rattle.esdk_run.specs.Trees.{Trees}
 use Rattle.esdk_run.specs.Unarmoured.{TextEnds, outlook_of}
 use Rattle.esdk_run.specs.UnarmouredDecrypt.{DecryptEndsAs, ReleasesSound}
@@ -32,6 +32,7 @@ use Rattle.armour_core.specs.ArmourText.{armour_text}
 use Rattle.armour_core.specs.Outlook.{text_outlook}
 use Rattle.armour_core.specs.declared.text_end.TextEnd.TheVariants.{Whole}
 use Rattle.whole_input.specs.Taken.{EndSeen}
+use Rattle.esdk_run.proofs.Promised.{SaysWhatItReads, SaysTheJudgement, DecryptsWholeMessages, ReadsBack}
 use Rattle.esdk_run.proofs.Given.{one_context}
 use Rattle.esdk_run.proofs.Keys.{reader_allows}
 use Rattle.esdk_run.proofs.Reading.{Ending, says_what_is_read}
@@ -46,18 +47,18 @@ use Rattle.esdk_run.proofs.UnarmouredTelling.{armoured_bytes, text_fault, text_m
 -- a decryption with the tree ended as the reader's with the tree's keys does, where no keyring failed
 pub reader_ends : (asked : DecryptWords) (before after : Objects) (unwritten : Type 0) (code : ℕ) (pairs given : List KeyValue) (tree left : KeyringMeaning)
     (keys : List WrapKeyValue) → pairs ≡ given → tree.keys ≡ Some keys → Stayed tree.faults left.faults
-    → Ending asked.armour (decrypt_asked asked pairs tree left) before after unwritten code → Ending asked.armour (asked_by (reader_of asked given keys)) before after unwritten code
+    → Ending asked.armour (decrypt_asked asked pairs tree left) before after unwritten code → Ending asked.armour (decrypting_by (reader_of asked given keys)) before after unwritten code
 reader_ends asked before after unwritten code pairs given tree left keys is told stayed (inl (context, done, shown)) =
-    subst (λ (g : List KeyValue). Ending asked.armour (asked_by (reader_of asked g keys)) before after unwritten code) is
-    (inl (context, decrypts_as_allowed asked.armour _ _ (limits_of asked) pairs before.input after.input before.output after.output context (reader_allows asked pairs tree left keys told stayed) done, shown))
+    subst (λ (g : List KeyValue). Ending asked.armour (decrypting_by (reader_of asked g keys)) before after unwritten code) is
+    (inl (context, decrypts_as_allowed asked.armour _ _ (decrypt_settings asked) pairs before.input after.input before.output after.output context (reader_allows asked pairs tree left keys told stayed) done, shown))
 reader_ends asked before after unwritten code pairs given tree left keys is told stayed (inr (error, ends, said)) =
-    subst (λ (g : List KeyValue). Ending asked.armour (asked_by (reader_of asked g keys)) before after unwritten code) is
-    (inr (error, ends_as_allowed asked.armour _ _ (limits_of asked) pairs before.input after.input before.output after.output unwritten error (reader_allows asked pairs tree left keys told stayed) ends, said))
+    subst (λ (g : List KeyValue). Ending asked.armour (decrypting_by (reader_of asked g keys)) before after unwritten code) is
+    (inr (error, ends_as_allowed asked.armour _ _ (decrypt_settings asked) pairs before.input after.input before.output after.output unwritten error (reader_allows asked pairs tree left keys told stayed) ends, said))
 
 -- so what is so of each such end is so of the run
 over_reader : (So : Type 0) (trees : Trees) (asked : DecryptWords) (before after : Objects) (unchanged : Unchanged) (code : ℕ) (given : List KeyValue)
-    (keys : List WrapKeyValue) → DecryptRuns trees asked before after unchanged code → Reads trees asked given keys
-    → (Ending asked.armour (asked_by (reader_of asked given keys)) before after unchanged.output code → So) → IfNoneFailed trees asked.keyring before.shelf after.shelf So
+    (keys : List WrapKeyValue) → DecryptRuns trees asked before after unchanged code → HasPairsAndKeys trees asked given keys
+    → (Ending asked.armour (decrypting_by (reader_of asked given keys)) before after unchanged.output code → So) → TreeWasReadAnd trees asked.keyring before.shelf after.shelf So
 over_reader So trees asked before after unchanged code given keys runs reads so =
     let had : HadTree trees asked before after unchanged.output code =
     had_tree trees asked before after unchanged code reads.left reads.kept runs in
@@ -77,20 +78,20 @@ says_what_it_reads trees asked before after unchanged code same runs given keys 
 -- ---- only want of memory keeps a whole message from being decrypted
 
 -- a report that doesn't fail shows the context, unless memory is wanting for its line
-pub context_shown : (pairs : List KeyValue) (code : ℕ) (before after : Objects) → NothingFails before after
+pub context_shown : (pairs : List KeyValue) (code : ℕ) (before after : Objects) → StreamsDontFail before after
     → TellsOrLacksMemory pairs code before.report after.report → IsDoneOrMemory code
 context_shown pairs code before after nothing (inl (inl shown)) = inl shown.status
 context_shown pairs code before after nothing (inl (inr lost)) = absurd (omega (arith, nothing.reporting, lost.rose))
 context_shown pairs code before after nothing (inr lacking) = inr (memory_status failures.Memory code before.report after.report refl lacking)
 
 only_memory : (armour : Bool) (reader : Reader) (before after : Objects) (unwritten : Type 0) (bytes : List ℕ) (error : DecryptError) → IsWholeAs armour reader before.input bytes
-    → NothingFails before after → DecryptEndsAs armour (asked_by reader) before.input after.input before.output after.output unwritten error → error ≡ errors.Memory
+    → StreamsDontFail before after → DecryptEndsAs armour (decrypting_by reader) before.input after.input before.output after.output unwritten error → error ≡ errors.Memory
 only_memory true reader before after unwritten bytes error whole nothing ends = text_memory reader before after unwritten bytes error whole nothing ends
 only_memory false reader before after unwritten bytes error whole nothing ends =
     memory_alone reader before.input after.input before.output after.output unwritten bytes error whole nothing.reading nothing.writing ends
 
 whole_decrypted : (armour : Bool) (reader : Reader) (before after : Objects) (unwritten : Type 0) (code : ℕ) (bytes : List ℕ) → IsWholeAs armour reader before.input bytes
-    → NothingFails before after → Ending armour (asked_by reader) before after unwritten code → IsDoneOrMemory code
+    → StreamsDontFail before after → Ending armour (decrypting_by reader) before after unwritten code → IsDoneOrMemory code
 whole_decrypted armour reader before after unwritten code bytes whole nothing (inl (context, done, told)) = context_shown context code before after nothing told
 whole_decrypted armour reader before after unwritten code bytes whole nothing (inr (error, ends, said)) =
     let memory : error ≡ errors.Memory = only_memory armour reader before after unwritten bytes error whole nothing ends in
@@ -119,14 +120,14 @@ one_shows_none pairs code report reported (inr lacking) one =
 
 -- an end that is called a fault is that fault
 fault_ended : (reader : Reader) (before after : Objects) (unwritten : Type 0) (fault : Fault) (error : DecryptError) → decryption_failure error ≡ failures.Fault fault
-    → DecryptEnds (asked_by reader) before.input after.input before.output after.output unwritten error → HasFault (asked_by reader) before.input after.input before.output after.output fault
+    → DecryptEnds (decrypting_by reader) before.input after.input before.output after.output unwritten error → DecryptFindsFault (decrypting_by reader) before.input after.input before.output after.output fault
 fault_ended reader before after unwritten fault (errors.Fault other) is ends =
-    let same : other ≡ fault = cc in subst (λ (f : Fault). HasFault (asked_by reader) before.input after.input before.output after.output f) same ends
+    let same : other ≡ fault = cc in subst (λ (f : Fault). DecryptFindsFault (decrypting_by reader) before.input after.input before.output after.output f) same ends
 fault_ended reader before after unwritten fault (errors.Outside outside) is ends = absurd cc
 fault_ended reader before after unwritten fault errors.Memory is ends = absurd cc
 
 whole_said : (armour : Bool) (asked : DecryptWords) (before after : Objects) (unwritten : Type 0) (code : ℕ) (given : List KeyValue) (keys : List WrapKeyValue) (bytes : List ℕ)
-    → before.input.left ≡ Some bytes → code ≡ 0 → Ending armour (asked_by (reader_of asked given keys)) before after unwritten code
+    → before.input.left ≡ Some bytes → code ≡ 0 → Ending armour (decrypting_by (reader_of asked given keys)) before after unwritten code
     → ShowsWhole asked given keys (outlook_of armour bytes) before after code
 whole_said false asked before after unwritten code given keys bytes told zero (inl (context, done, shown)) = record {
   context = context;
@@ -143,7 +144,7 @@ whole_said true asked before after unwritten code given keys text told zero (inl
 whole_said armour asked before after unwritten code given keys bytes told zero (inr (error, ends, said)) = absurd (not_done (decryption_failure error) code before.report after.report said zero)
 
 fault_said : (armour : Bool) (asked : DecryptWords) (before after : Objects) (unwritten : Type 0) (code : ℕ) (given : List KeyValue) (keys : List WrapKeyValue) (bytes : List ℕ)
-    → before.input.left ≡ Some bytes → code ≡ 1 → Ending armour (asked_by (reader_of asked given keys)) before after unwritten code
+    → before.input.left ≡ Some bytes → code ≡ 1 → Ending armour (decrypting_by (reader_of asked given keys)) before after unwritten code
     → NamesFault asked given keys (outlook_of armour bytes) before after
 fault_said armour asked before after unwritten code given keys bytes told one (inl (context, done, shown)) = absurd (one_shows_none context code before.report after.report shown one)
 fault_said false asked before after unwritten code given keys bytes told one (inr (error, ends, said)) =
@@ -155,9 +156,9 @@ fault_said true asked before after unwritten code given keys text told one (inr 
     let named = fault_status (decryption_failure error) code before.report after.report said one in
     let first = text_fault (reader_of asked given keys) before after unwritten text named.fault error told named.is
     (subst (λ (f : Failure). TextEnds f before.input after.input
-    (λ seen read. DecryptEnds (asked_by (reader_of asked given keys)) seen read before.output after.output unwritten error)
-    (λ seen read. ReleasesSound (asked_by (reader_of asked given keys)) seen read before.output after.output (EndSeen seen read))
-    (λ seen read. ReleasesSound (asked_by (reader_of asked given keys)) seen read before.output after.output (λ bytes. ⊤))) named.is ends) in
+    (λ seen read. DecryptEnds (decrypting_by (reader_of asked given keys)) seen read before.output after.output unwritten error)
+    (λ seen read. ReleasesSound (decrypting_by (reader_of asked given keys)) seen read before.output after.output (EndSeen seen read))
+    (λ seen read. ReleasesSound (decrypting_by (reader_of asked given keys)) seen read before.output after.output (λ bytes. ⊤))) named.is ends) in
     record { fault = named.fault; cause = first.cause; gained = first.gained; line = named.line }
 
 pub says_the_judgement : (trees : Trees) (asked : DecryptWords) (before after : Objects) (unchanged : Unchanged) (code : ℕ)
@@ -177,7 +178,7 @@ gives_back m context before after code gained is shown =
     record { gained = gained; shown = subst (λ (c : List KeyValue). ShowsContext c code before.report after.report) is shown }
 
 text_given : (armour : Bool) (reader : Reader) (before after : Objects) (unwritten : Type 0) (code : ℕ) (writers : List WrapKeyValue) (m : Written)
-    → IsWrittenFor reader writers m → TellsAs armour before.input (written_message m) → code ≡ 0 → Ending armour (asked_by reader) before after unwritten code
+    → IsWrittenFor reader writers m → TellsAs armour before.input (written_message m) → code ≡ 0 → Ending armour (decrypting_by reader) before after unwritten code
     → GivesBack m.text m.context before after code
 text_given false reader before after unwritten code writers m written tells zero (inl (context, done, shown)) =
     let given_back = text_decrypted reader writers m before.input after.input before.output after.output context written tells.0 done in
@@ -190,7 +191,7 @@ text_given true reader before after unwritten code writers m written tells zero 
 text_given armour reader before after unwritten code writers m written tells zero (inr (error, ends, said)) = absurd (not_done (decryption_failure error) code before.report after.report said zero)
 
 written_done : (armour : Bool) (reader : Reader) (before after : Objects) (unwritten : Type 0) (code : ℕ) (writers : List WrapKeyValue) (m : Written)
-    → IsWrittenFor reader writers m → TellsAs armour before.input (written_message m) → NothingFails before after → Ending armour (asked_by reader) before after unwritten code
+    → IsWrittenFor reader writers m → TellsAs armour before.input (written_message m) → StreamsDontFail before after → Ending armour (decrypting_by reader) before after unwritten code
     → IsDoneOrMemory code
 written_done false reader before after unwritten code writers m written tells nothing ended =
     whole_decrypted false reader before after unwritten code (written_message m) (written_whole reader writers m before.input written tells.0 tells.1) nothing ended

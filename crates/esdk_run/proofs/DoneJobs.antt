@@ -28,15 +28,16 @@ use Rattle.batch_report.specs.BatchReport.{is_ended_well}
 use Rattle.esdk_batch.specs.Batch.{AllCome, ComesTo, OnlyWritten, WorksSo}
 use Rattle.esdk_batch.specs.Failures.{entropy_fails, keyring_fails, shelf_fails, shelf_fails_of}
 use Rattle.keyring_trait.specs.Saying.{Saying}
-use Rattle.esdk_batch.specs.SealStory.{SealAsked, SealsSo, Seen, held}
+use Rattle.esdk_batch.specs.SealStory.{SealAsked, SealsSo, Seen, held_or_none}
 use Rattle.esdk_run.specs.Batch.{HasJobs}
-use Rattle.esdk_run.specs.EachJob.{DoesJob, DoesJobs, DoesWhatItMust, MustOpen, MustSeal, NoJobFails, ReadsSo, WorksIfItMust, reader_for}
+use Rattle.esdk_run.specs.EachJob.{DoesJobs, MustOpen, MustSeal, NothingOfBatchFails, ReadsSo, WorksIfItMust, reader_for}
 use Rattle.esdk_run.specs.Objects.{Objects, Unchanged}
 use Rattle.esdk_run.specs.Run.{BatchRuns, RunsAllJobs}
 use Rattle.esdk_run.specs.Giving.{refusal_over}
 use Rattle.esdk_run.specs.Serving.{managing_over}
 use Rattle.esdk_run.specs.Told.{HoldsTree}
 use Rattle.esdk_run.specs.Trees.{Trees}
+use Rattle.esdk_run.proofs.Promised.{DoesWhatItMust}
 use Rattle.esdk_run.proofs.Batches.{jobs_are_held, runs_what_is_held, tree_still_held}
 use Rattle.esdk_run.proofs.EachJob.{reads_so, seen_with}
 use Rattle.esdk_run.proofs.Files.{tree_is_held}
@@ -77,7 +78,7 @@ module _ (cache : Option LimitsValue) (tree left : KeyringMeaning) (asked : Seal
   sealing_done (ends.Outside outsides.KeyringFault) drawing opening reading so = absurd (omega (arith, opening))
   sealing_done (ends.Outside outsides.ShelfFault) drawing opening reading so = absurd (omega (arith, reading))
   sealing_done (ends.Outside outsides.InputTooLong) drawing opening reading so =
-      absurd (omega (arith, must.few, so.long, ap (λ (from : Option (List ℕ)). length (held from)) must.holds))
+      absurd (omega (arith, must.few, so.long, ap (λ (from : Option (List ℕ)). length (held_or_none from)) must.holds))
   sealing_done (ends.Outside outside) drawing opening reading so = absurd so
   sealing_done (ends.Fault fault) drawing opening reading so = absurd so
 
@@ -97,7 +98,7 @@ module _ (cache : Option LimitsValue) (tree : KeyringMeaning) (given : List KeyV
   opening_done (ends.Fault fault) reading so = absurd (has_no_fault so.bytes fault so.releases.from so.cause)
   opening_done (ends.Outside outsides.ShelfFault) reading so = absurd (omega (arith, reading))
   opening_done (ends.Outside outsides.InputTooLong) reading so =
-      absurd (omega (arith, must.few, so.1, ap (λ (from : Option (List ℕ)). length (held from)) must.holds))
+      absurd (omega (arith, must.few, so.1, ap (λ (from : Option (List ℕ)). length (held_or_none from)) must.holds))
   opening_done (ends.Outside outside) reading so = absurd so
   opening_done (ends.Refusal refusal) reading so = absurd so
 
@@ -130,7 +131,7 @@ module _ (cache : Option LimitsValue) (tree left : KeyringMeaning) (stayed : Sta
   each_done : (jobs : List Job) (drawn : List (List ℕ)) (lines : List JobLine) → All (λ job. RequiresGiven job.work) jobs → All (λ job. is_written all_jobs job.from ≡ false) jobs
       → sum_by (λ line. entropy_fails line.end) lines ≡ 0 → sum_by (λ line. keyring_fails line.end) lines ≡ 0
       → sum_by (λ pair. shelf_fails_of before pair.0 pair.1.end) (zip jobs lines) ≡ 0
-      → AllCome (managing_over cache tree left) before after jobs drawn lines → AllZip (DoesJob cache tree before) jobs lines
+      → AllCome (managing_over cache tree left) before after jobs drawn lines → AllZip (λ job line. WorksIfItMust cache tree job.work (file_of before job.from) line) jobs lines
   each_done [] [] [] are_given unread drawing opening reading all = tt
   each_done (job ∷ jobs) (drawn ∷ draws) (line ∷ lines) are_given unread drawing opening reading all =
       let entropy = first_zero (λ (l : JobLine). entropy_fails l.end) line lines drawing in
@@ -158,7 +159,7 @@ read_tree_is_held trees name old new read held tree held_tree same holds has =
 read_faults : (trees : Trees) (name : List ℕ) (old new : ShelfState) (read : JobFile) (tree : KeyringMeaning) → HasJobs trees name old new read tree → new.faults ≡ old.faults
 read_faults trees name old new read tree has = has.keyring.file.faults ∙ has.jobs.read.file.faults
 
-jobs_done : (trees : Trees) (name : List ℕ) (before after : Objects) (code : ℕ) (runs : RunsAllJobs trees name before after code) → NoJobFails trees runs.runs.tree before after
+jobs_done : (trees : Trees) (name : List ℕ) (before after : Objects) (code : ℕ) (runs : RunsAllJobs trees name before after code) → NothingOfBatchFails trees runs.runs.tree before after
     → DoesJobs runs.runs.file.cache runs.runs.tree before.shelf.files runs.runs.file.jobs before.output after.output
 jobs_done trees name before after code runs nothing =
     let all = runs.runs in
@@ -170,7 +171,7 @@ jobs_done trees name before after code runs nothing =
     record {
       lines = runs.lines;
       gained = runs.writes.gained;
-      done = subst (λ (files : Option Files). AllZip (DoesJob all.file.cache all.tree files) all.file.jobs runs.lines) all.has.stay
+      done = subst (λ (files : Option Files). AllZip (λ job line. WorksIfItMust all.file.cache all.tree job.work (file_of files job.from) line) all.file.jobs runs.lines) all.has.stay
           (each_done all.file.cache all.tree all.left stayed all.file.jobs all.read.files after.shelf.files all.others all.file.jobs ran.draws runs.lines kept.given kept.unread
           (none_rose _ _ _ all.failures.entropy nothing.drawing) (none_rose _ _ _ all.failures.keyring stayed) (none_rose _ _ _ all.failures.shelf reading) ran.jobs);
     }
@@ -182,7 +183,7 @@ does_what_it_must trees name before after unchanged code (inl runs) file tree ho
     let same : runs.runs.file ≡ file = jobs_are_held before.shelf has.between name holds.bytes file runs.runs.file holds.holds holds.is has.jobs in
     let same_tree : runs.runs.tree ≡ tree =
     read_tree_is_held trees name before.shelf runs.runs.read runs.runs.file file runs.runs.tree tree same holds.keyring has in
-    let nothing_read : NoJobFails trees runs.runs.tree before after = subst (λ (t : KeyringMeaning). NoJobFails trees t before after) (sym same_tree) nothing in
+    let nothing_read : NothingOfBatchFails trees runs.runs.tree before after = subst (λ (t : KeyringMeaning). NothingOfBatchFails trees t before after) (sym same_tree) nothing in
     inr (subst (λ (f : JobFile). DoesJobs f.cache tree before.shelf.files f.jobs before.output after.output) same
     (subst (λ (t : KeyringMeaning). DoesJobs runs.runs.file.cache t before.shelf.files runs.runs.file.jobs before.output after.output) same_tree
     (jobs_done trees name before after code runs nothing_read)))

@@ -13,7 +13,8 @@ use Rattle.esdk_fields.specs.declared.refusals.Outside.TheVariants as outsides
 use Rattle.context_codec.specs.Context.{KeyValue}
 use Rattle.context_codec.specs.Join.{mismatch, too_long}
 use Rattle.context_codec.specs.Parts.{holds, whole_of}
-use Rattle.header_codec.specs.Table.{Head, header}
+use Rattle.header_codec.specs.Table.{HeaderFields, header}
+use Rattle.header_codec.specs.Header.{no_limits}
 use Rattle.keyring_trait.specs.declared.manager_errors.ManagerError.{ManagerError}
 use Rattle.keyring_trait.specs.declared.manager_errors.ManagerError.TheVariants as managers
 use Rattle.keyring_trait.specs.declared.served.Served.{Served}
@@ -37,11 +38,11 @@ use Rattle.batch_report.specs.declared.job_lines.JobLine.{JobLine}
 use Rattle.batch_report.specs.declared.job_lines.JobEnd.{JobEnd}
 use Rattle.batch_report.specs.declared.job_lines.JobEnd.TheVariants as ends
 use Rattle.esdk_batch.specs.Batch.{AllCome, WorksSo}
-use Rattle.esdk_batch.specs.Answering.{HasAnswer, HasFailed, no_limits, serving}
-use Rattle.esdk_batch.specs.OpenStory.{Opens, OpensFront, OpensSo}
-use Rattle.esdk_batch.specs.SealStory.{Seen, held}
+use Rattle.esdk_batch.specs.Answering.{HasAnswer, HasFailed, serving}
+use Rattle.esdk_batch.specs.OpenStory.{JobOpens, OpensFront, OpensSo}
+use Rattle.esdk_batch.specs.SealStory.{Seen, held_or_none}
 use Rattle.esdk_run.specs.Decrypt.{TreeFinds, TreeFindsNone}
-use Rattle.esdk_run.specs.EachJob.{IsReadBy, ReadsSo, Releases, ReleasesFront, SaysEachJudgement, ShowsJudgements, WorkReadsSo, reader_for}
+use Rattle.esdk_run.specs.EachJob.{IsReadBy, ReadsSo, JobReleases, JobReleasesFront, ShowsJudgements, WorkReadsSo, reader_for}
 use Rattle.esdk_run.specs.Objects.{Objects, Unchanged}
 use Rattle.esdk_run.specs.Run.{BatchRuns, RunsAllJobs}
 use Rattle.esdk_run.specs.Serving.{IsSteadyIfCached, TreeServesHeader, TreeServesNone, managing_over}
@@ -109,7 +110,7 @@ module _ (cache : Option LimitsValue) (tree left : KeyringMeaning) (keys : List 
         (not_found request (managers.Fault fault)
         (subst (λ (pairs : List KeyValue). pair_offence request.stored pairs required ≡ pair_offence request.stored pairs []) (sym is) (given_offence request.stored given required are_given)) answers)
 
-    reading_answered : (bytes : List ℕ) (r : Reading Head) (answer : Unlocking)
+    reading_answered : (bytes : List ℕ) (r : Reading HeaderFields) (answer : Unlocking)
         → AnswersReading (answers_at (serving over served) moment) given bytes r answer → AnswersReading (answering_by reader) given bytes r answer
     reading_answered bytes (Read parts body) answer answers = request_answered (request_of given (header_of bytes parts)) answer refl answers
     reading_answered bytes (Refused fault at) answer is = is
@@ -121,7 +122,7 @@ module _ (cache : Option LimitsValue) (tree left : KeyringMeaning) (keys : List 
       judged_reader reader bytes answer (reading_answered served has.moment bytes (header no_limits (start bytes)) answer has.answered)
 
   -- and it doesn't fail
-  none_fails : (moment : ℕ) (bytes : List ℕ) (r : Reading Head) → FailsReading (answers_at over moment) given bytes r → ⊥
+  none_fails : (moment : ℕ) (bytes : List ℕ) (r : Reading HeaderFields) → FailsReading (answers_at over moment) given bytes r → ⊥
   none_fails moment bytes (Read parts body) failed = omega (arith, stayed, failed.1)
   none_fails moment bytes (Refused fault at) none = none
   none_fails moment bytes Wanting none = none
@@ -131,17 +132,17 @@ module _ (cache : Option LimitsValue) (tree left : KeyringMeaning) (keys : List 
 
   -- ---- what the job comes to
 
-  releases : (seen : Seen) (bytes : List ℕ) (answer : Unlocking) → Opens over given seen bytes answer → Releases reader seen bytes
+  releases : (seen : Seen) (bytes : List ℕ) (answer : Unlocking) → JobOpens over given seen bytes answer → JobReleases reader seen bytes
   releases seen bytes answer opens = record {
     from = opens.from;
     to = subst (λ (j : Judged). seen.to ≡ Some (content j)) (judged_so bytes seen.served answer opens.answered) opens.to;
   }
 
-  front : (seen : Seen) → (seen.to ≡ Some []) ⊎ OpensFront over given seen → ReleasesFront reader seen
+  front : (seen : Seen) → (seen.to ≡ Some []) ⊎ OpensFront over given seen → JobReleasesFront reader seen
   front seen (inl empty) = record { count = 0; front = empty }
   front seen (inr some) = record {
     count = some.count;
-    front = subst (λ (j : Judged). seen.to ≡ Some (take some.count (content j))) (judged_so (held seen.from) seen.served some.answer some.answered) some.front;
+    front = subst (λ (j : Judged). seen.to ≡ Some (take some.count (content j))) (judged_so (held_or_none seen.from) seen.served some.answer some.answered) some.front;
   }
 
   pub reads_so : (seen : Seen) (end : JobEnd) → OpensSo over given seen end → ReadsSo reader seen end
@@ -211,7 +212,7 @@ all_judged trees name before after code runs =
     }
 
 pub says_each_judgement : (trees : Trees) (name : List ℕ) (before after : Objects) (unchanged : Unchanged) (code : ℕ)
-    → BatchRuns trees name before after unchanged code → SaysEachJudgement trees name before after code
+    → BatchRuns trees name before after unchanged code → (code ≡ 0) ⊎ (code ≡ 7) → ShowsJudgements trees name before after
 says_each_judgement trees name before after unchanged code (inl runs) reported = all_judged trees name before after code runs
 says_each_judgement trees name before after unchanged code (inr fails) (inl zero) = absurd (not_done fails.failure code before.report after.report fails.said zero)
 says_each_judgement trees name before after unchanged code (inr fails) (inr seven) = absurd (not_seven fails.failure code before.report after.report fails.said seven)

@@ -13,16 +13,16 @@ use Rattle.keyring_trait.specs.Requests.{required_absent}
 use Rattle.keyring_trait.specs.Wrapping.{WrapKeyValue, first_some}
 use Rattle.esdk_encrypt.specs.declared.errors.EncryptError.{EncryptError}
 use Rattle.esdk_encrypt.specs.declared.errors.EncryptError.TheVariants as errors
-use Rattle.esdk_encrypt.specs.Encrypt.{Asked, Encrypts, EncryptEnds}
+use Rattle.esdk_encrypt.specs.Encrypt.{EncryptAsked, Encrypts, EncryptEnds}
 use Rattle.esdk_encrypt.specs.Gaining.{Gaining}
 use Rattle.esdk_encrypt.specs.Laws.{FitsMessage, GainsMessage}
-use Rattle.esdk_encrypt.specs.Told.{asked_by}
+use Rattle.esdk_encrypt.specs.Told.{encrypting_by}
 use Rattle.esdk_encrypt.proofs.Fitting.{only_memory_ends}
 use Rattle.esdk_encrypt.proofs.Gaining.{gains_message}
 use Rattle.esdk_encrypt.proofs.Telling.{encrypts_more}
 use Rattle.esdk_report.specs.declared.failure.Failure.{Failure}
 use Rattle.esdk_report.specs.declared.failure.Failure.TheVariants as failures
-use Rattle.esdk_run.specs.ArmouredMessage.{form_of, output_gains}
+use Rattle.esdk_run.specs.ArmouredMessage.{output_form, output_gains}
 use Rattle.esdk_run.specs.Encrypt.{EncryptFails, EncryptionFails, encrypt_asked, refusal_asked, run_writer}
 use Rattle.esdk_run.specs.Failures.{encryption_failure}
 use Rattle.esdk_run.specs.Giving.{refusal_over}
@@ -30,8 +30,9 @@ use Rattle.esdk_run.specs.Objects.{Objects, Unchanged, same_streams}
 use Rattle.esdk_run.specs.Pairs.{context_in, required_in}
 use Rattle.esdk_report.specs.Report.{Reports}
 use Rattle.esdk_run.specs.Run.{EncryptRuns, IsDone}
-use Rattle.esdk_run.specs.Told.{ComesBack, EncryptsWhatFits, GivesTree, HoldsTree, IsDoneOrMemory, NothingFails, WritesTheMessage}
+use Rattle.esdk_run.specs.Told.{ComesBack, GivesTree, HoldsTree, IsDoneOrMemory, StreamsDontFail}
 use Rattle.esdk_run.specs.Trees.{HasTree, Trees}
+use Rattle.esdk_run.proofs.Promised.{WritesTheMessage, EncryptsWhatFits}
 use Rattle.esdk_run.proofs.Chain.{ends_unasked}
 use Rattle.esdk_run.proofs.Files.{held_is_read, held_is_taken}
 use Rattle.esdk_run.proofs.Given.{one_context, pairs_not_refused}
@@ -42,7 +43,7 @@ use Rattle.esdk_run.proofs.TreesBack.{gives_held, if_none_failed, left_is, none_
 -- ---- how the encryption ended, where a tree is given back
 
 -- how an encryption ended, and what was said of it
-abbrev pub Ending : Asked → Gaining → Objects → Objects → Type 0 → ℕ → Type 0
+abbrev pub Ending : EncryptAsked → Gaining → Objects → Objects → Type 0 → ℕ → Type 0
 Ending asked gains before after untouched code =
     (IsDone code before.report after.report × Encrypts asked before.input after.input gains before.entropy after.entropy)
     ⊎ ((error : EncryptError) × EncryptEnds asked before.input after.input gains before.entropy after.entropy untouched ⊤ error × Reports (encryption_failure error) code before.report after.report)
@@ -154,7 +155,7 @@ record MustEncrypt (asked : EncryptWords) (before after : Objects) (context : Li
   unrefused : refusal_asked asked context left ≡ None
   allowed : IfSome asked.max_keys (λ most. left.wraps ≤ most)
   fits : FitsMessage asked.frame before.input text
-  nothing : NothingFails before after
+  nothing : StreamsDontFail before after
   drawing : Stayed before.entropy.faults after.entropy.faults
 
 must_of_left : {asked : EncryptWords} {before after : Objects} {context : List KeyValue} {left : KeyringMeaning} {text : List ℕ}
@@ -172,7 +173,7 @@ memory_ends trees asked before after untouched code context tree left text has m
     let unrefused : refusal_asked asked context tree ≡ None = same_refusal asked context tree left has.goes.refuses ∙ must.unrefused in
     let allowed : IfSome asked.max_keys (λ most. tree.wraps ≤ most) = subst (λ (w : ℕ). IfSome asked.max_keys (λ most. w ≤ most)) has.goes.wraps must.allowed in
     let memory : error ≡ errors.Memory =
-    only_memory_ends (form_of asked.armour) (encrypt_asked asked context tree left) text before.input after.input before.output after.output before.entropy after.entropy untouched ⊤ error
+    only_memory_ends (output_form asked.armour) (encrypt_asked asked context tree left) text before.input after.input before.output after.output before.entropy after.entropy untouched ⊤ error
     (tree_grants asked context tree left has.given.is has.lawful unrefused allowed stayed) must.fits
     (record { source = must.nothing.reading; sink = must.nothing.writing; drawing = must.drawing }) ends in
     inr (memory_status (encryption_failure error) code before.report after.report (ap encryption_failure memory) said)
@@ -196,13 +197,13 @@ message_gained : (trees : Trees) (asked : EncryptWords) (before after : Objects)
     (context : List KeyValue) (tree left : KeyringMeaning) (keys : List WrapKeyValue) (text written : List ℕ) → HasTree trees asked.pairs asked.keyring before.shelf after.shelf context tree left
     → tree.keys ≡ Some keys → before.input.left ≡ Some text → before.output.written ≡ Some written → code ≡ 0
     → Ending (encrypt_asked asked context tree left) (output_gains asked.armour before.output after.output) before after untouched code
-    → GainsMessage (form_of asked.armour) (run_writer asked context keys) text written before.entropy after.output
+    → GainsMessage (output_form asked.armour) (run_writer asked context keys) text written before.entropy after.output
 message_gained trees asked before after untouched code context tree left keys text written has told is had zero (inl done) =
-    let encrypts : Encrypts (asked_by (run_writer asked context keys) (refusal_asked asked context tree) tree.faults left.faults)
+    let encrypts : Encrypts (encrypting_by (run_writer asked context keys) (refusal_asked asked context tree) tree.faults left.faults)
     before.input after.input (output_gains asked.armour before.output after.output) before.entropy after.entropy =
     encrypts_more (encrypt_asked asked context tree left) _ before.input after.input (output_gains asked.armour before.output after.output) before.entropy after.entropy
     (told_says_more asked context tree left keys has.lawful told) done.1 in
-    gains_message (form_of asked.armour) (run_writer asked context keys) (refusal_asked asked context tree) tree.faults left.faults text written
+    gains_message (output_form asked.armour) (run_writer asked context keys) (refusal_asked asked context tree) tree.faults left.faults text written
     before.input after.input before.output after.output before.entropy after.entropy is had encrypts
 message_gained trees asked before after untouched code context tree left keys text written has told is had zero (inr (error, ends, said)) =
     absurd (not_done (encryption_failure error) code before.report after.report said zero)
@@ -211,6 +212,6 @@ pub writes_the_message : (trees : Trees) (asked : EncryptWords) (before after : 
     → EncryptRuns trees asked before after unchanged code → WritesTheMessage trees asked before after code
 writes_the_message trees asked before after unchanged code runs context left keys text written given kept told is had_written zero =
     let had = had_tree trees asked before after unchanged code left kept runs in
-    subst (λ (c : List KeyValue). GainsMessage (form_of asked.armour) (run_writer asked c keys) text written before.entropy after.output) (one_context asked.pairs had.context context had.has.given.made given)
+    subst (λ (c : List KeyValue). GainsMessage (output_form asked.armour) (run_writer asked c keys) text written before.entropy after.output) (one_context asked.pairs had.context context had.has.given.made given)
     (message_gained trees asked before after (same_streams unchanged) code had.context had.tree had.left keys text written had.has
     (told_then trees had.tree had.left left keys had.has.goes had.has.kept kept told) is had_written zero had.ended)

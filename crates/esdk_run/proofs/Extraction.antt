@@ -3,6 +3,7 @@ use Rattle.std.proofs.Common.{◌≡◌, ◌⊎◌, ◌∙◌, ℕ, zero, suc, �
 use Rattle.std.specs.Prelude.{IfErr, IfOk, OnOk}
 use Rattle.std.specs.Io.KnownBytes.{Appends}
 use Rattle.std.specs.declared.option.Option.{Option}
+use Rattle.header_codec.specs.Header.{no_limits}
 use Rattle.esdk_args.specs.declared.request.ExtractWords.{ExtractWords}
 use Rattle.esdk_fields.specs.Counts.{Stayed}
 use Rattle.esdk_fields.specs.declared.faults.Fault.{Fault}
@@ -17,13 +18,13 @@ use Rattle.esdk_fields.specs.Bytes.{AreBytes}
 use Rattle.body_format.specs.declared.verdicts.Verdict.TheVariants.{Whole}
 use Rattle.message_format.specs.Judgement.{Judged}
 use Rattle.message_format.specs.Reading.{read, unlocking}
-use Rattle.esdk_decrypt.specs.Decrypt.{AnswersTo, Asked}
-use Rattle.esdk_decrypt.specs.Told.{Reader, answering_by, asked_by, judged_by}
+use Rattle.esdk_decrypt.specs.Decrypt.{AnswersTo, DecryptAsked}
+use Rattle.esdk_decrypt.specs.Told.{Reader, answering_by, decrypting_by, judged_by}
 use Rattle.esdk_decrypt.proofs.Readers.{answers_unlocking}
 use Rattle.extract_core.specs.declared.errors.ExtractError.{ExtractError}
 use Rattle.extract_core.specs.declared.errors.ExtractError.TheVariants as errors
 use Rattle.extract_core.specs.Extracted.{ByteRange, Extraction, extracted}
-use Rattle.extract_core.specs.Extract.{ExtractEnds, Extracts, most_read, most_taken}
+use Rattle.extract_core.specs.Extract.{ExtractEnds, Extracts, most_read, most_bytes_read}
 use Rattle.extract_core.specs.Laws.{EndsAsItBegins, ExtractsOfWhole}
 use Rattle.extract_core.proofs.Judged.{extracts_whole}
 use Rattle.extract_core.proofs.Allowed.{extract_ends_allowed, extracts_allowed}
@@ -33,16 +34,16 @@ use Rattle.whole_input.specs.Pieces.{most_piece}
 use Rattle.esdk_report.specs.Report.{Reports}
 use Rattle.esdk_report.specs.declared.failure.Failure.{Failure}
 use Rattle.esdk_report.specs.declared.failure.Failure.TheVariants as failures
-use Rattle.esdk_batch.specs.Answering.{no_limits}
 use Rattle.esdk_run.specs.Extract.{ExtractFails, ExtractionFails, HasTreeFor, ReadsOfFile, as_decryption, extract_asked, extract_reader, range_asked}
-use Rattle.esdk_run.specs.ExtractTold.{ExtractsOfContent, ExtractsSoundRanges, GainsRange, NamesExtractFault, NothingFailsOf, ReadsFile, ReadsNoMore, ReadsTaken, SaysWhatItExtracts, WritesOfContent, extracted_by}
+use Rattle.esdk_run.specs.ExtractTold.{GainsRange, NamesExtractFault, ShelfAndOutputsDontFail, ReadsMessageFile, ReadsTaken, WritesOfContent, extracted_by}
 use Rattle.esdk_run.specs.Failures.{extraction_failure}
 use Rattle.esdk_run.specs.Objects.{Objects, Unchanged}
 use Rattle.esdk_run.specs.Pairs.{context_in}
 use Rattle.esdk_run.specs.Prepared.{IsNotPrepared}
 use Rattle.esdk_run.specs.Run.{ExtractRuns, IsDone}
-use Rattle.esdk_run.specs.Told.{ComesBackBefore, GivesTree, HoldsTree, IfNoneFailedBefore, IsDoneOrMemory}
+use Rattle.esdk_run.specs.Told.{ComesBackBefore, GivesTree, HoldsTree, TreeWasReadFirstAnd, IsDoneOrMemory}
 use Rattle.esdk_run.specs.Trees.{IsUntouched, Trees}
+use Rattle.esdk_run.proofs.Promised.{SaysWhatItExtracts, ExtractsSoundRanges, ExtractsOfContent, ReadsNoMore}
 use Rattle.esdk_run.proofs.Files.{held_is_read, held_is_taken, no_read_fails}
 use Rattle.esdk_run.proofs.Given.{one_context, pairs_not_refused}
 use Rattle.esdk_run.proofs.Keys.{reader_allows}
@@ -82,7 +83,7 @@ extraction_ran trees asked before after unchanged code (Err error) t done ends f
 -- ---- a run that read a tree
 
 -- The extraction ended so.
-abbrev pub Ended : Asked → ExtractWords → ShelfState → Objects → Objects → Type 0 → ℕ → Type 0
+abbrev pub Ended : DecryptAsked → ExtractWords → ShelfState → Objects → Objects → Type 0 → ℕ → Type 0
 Ended about asked middle before after unwritten code =
     (IsDone code before.report after.report × ((written : ℕ) × Extracts about (range_asked asked) middle after.shelf asked.from before.output after.output written))
     ⊎ ((error : ExtractError) × (ExtractEnds about (range_asked asked) middle after.shelf asked.from before.output after.output unwritten error
@@ -148,19 +149,19 @@ extract_comes_back trees asked before after unchanged code runs = record {
 
 pub reader_ended : (asked : ExtractWords) (middle : ShelfState) (before after : Objects) (unwritten : Type 0) (code : ℕ) (pairs given : List KeyValue) (tree left : KeyringMeaning) (keys : List WrapKeyValue)
     → pairs ≡ given → tree.keys ≡ Some keys → Stayed tree.faults left.faults → Ended (extract_asked asked pairs tree left) asked middle before after unwritten code
-    → Ended (asked_by (extract_reader asked given keys)) asked middle before after unwritten code
+    → Ended (decrypting_by (extract_reader asked given keys)) asked middle before after unwritten code
 reader_ended asked middle before after unwritten code pairs given tree left keys is told stayed (inl (done, (written, extracts))) =
-    subst (λ (g : List KeyValue). Ended (asked_by (extract_reader asked g keys)) asked middle before after unwritten code) is
+    subst (λ (g : List KeyValue). Ended (decrypting_by (extract_reader asked g keys)) asked middle before after unwritten code) is
     (inl (done, (written, extracts_allowed _ _ no_limits pairs (range_asked asked) middle after.shelf asked.from before.output after.output written (reader_allows (as_decryption asked) pairs tree left keys told stayed) extracts)))
 reader_ended asked middle before after unwritten code pairs given tree left keys is told stayed (inr (error, (ends, said))) =
-    subst (λ (g : List KeyValue). Ended (asked_by (extract_reader asked g keys)) asked middle before after unwritten code) is
+    subst (λ (g : List KeyValue). Ended (decrypting_by (extract_reader asked g keys)) asked middle before after unwritten code) is
     (inr (error, (extract_ends_allowed _ _ no_limits pairs (range_asked asked) middle after.shelf asked.from before.output after.output unwritten error (reader_allows (as_decryption asked) pairs tree left keys told stayed) ends, said)))
 
 -- so what is so of each such end is so of the run
 over_reader : (So : Type 0) (trees : Trees) (asked : ExtractWords) (before after : Objects) (unchanged : Unchanged) (code : ℕ) (given : List KeyValue) (keys : List WrapKeyValue) (bytes : List ℕ)
-    → ExtractRuns trees asked before after unchanged code → ReadsFile trees asked before given keys bytes
-    → ((middle : ShelfState) → middle.files ≡ before.shelf.files → middle.faults ≡ before.shelf.faults → middle.given ≤ before.shelf.given + most_file + most_piece → Ended (asked_by (extract_reader asked given keys)) asked middle before after unchanged.output code → So)
-    → IfNoneFailedBefore trees asked.keyring before.shelf So
+    → ExtractRuns trees asked before after unchanged code → ReadsMessageFile trees asked before given keys bytes
+    → ((middle : ShelfState) → middle.files ≡ before.shelf.files → middle.faults ≡ before.shelf.faults → middle.given ≤ before.shelf.given + most_file + most_piece → Ended (decrypting_by (extract_reader asked given keys)) asked middle before after unchanged.output code → So)
+    → TreeWasReadFirstAnd trees asked.keyring before.shelf So
 over_reader So trees asked before after unchanged code given keys bytes runs reads so =
     let had = had_range trees asked before after unchanged code reads.reads.left reads.reads.kept runs in
     let t = had.tree_for in (
@@ -179,15 +180,15 @@ by_reader reader bytes range answer answers = ap (λ (a : Unlocking). extracted 
 
 -- no more was read than this reader reads
 taken_read : (reader : Reader) (bytes : List ℕ) (range : ByteRange) (answer : Unlocking) (before middle after : ShelfState) → AnswersTo (answering_by reader) reader.settings reader.given bytes answer
-    → middle.given ≤ before.given + most_file + most_piece → after.given ≤ middle.given + most_taken bytes reader.settings answer range → ReadsTaken reader bytes range before after
+    → middle.given ≤ before.given + most_file + most_piece → after.given ≤ middle.given + most_bytes_read bytes reader.settings answer range → ReadsTaken reader bytes range before after
 taken_read reader bytes range answer before middle after answers few read =
-    omega (arith, few, read, ap (λ (a : Unlocking). most_taken bytes reader.settings a range) (answers_unlocking reader bytes answer answers))
+    omega (arith, few, read, ap (λ (a : Unlocking). most_bytes_read bytes reader.settings a range) (answers_unlocking reader bytes answer answers))
 
 held_then : (before : Objects) (middle : ShelfState) (name bytes : List ℕ) → middle.files ≡ before.shelf.files → Holds before.shelf.files name bytes → Holds middle.files name bytes
 held_then before middle name bytes same held = subst (λ (f : Option Files). Holds f name bytes) (sym same) held
 
 pub range_gained : (reader : Reader) (asked : ExtractWords) (middle : ShelfState) (before after : Objects) (unwritten : Type 0) (code : ℕ) (bytes : List ℕ) → IsSeenAs middle after.shelf asked.from bytes
-    → middle.given ≤ before.shelf.given + most_file + most_piece → code ≡ 0 → Ended (asked_by reader) asked middle before after unwritten code → GainsRange reader asked bytes before after
+    → middle.given ≤ before.shelf.given + most_file + most_piece → code ≡ 0 → Ended (decrypting_by reader) asked middle before after unwritten code → GainsRange reader asked bytes before after
 range_gained reader asked middle before after unwritten code bytes held few is_zero (inl (done, (written, extracts))) =
     let w = extracts.writes bytes held in
     let is = by_reader reader bytes (range_asked asked) w.answer w.answered in
@@ -206,7 +207,7 @@ record EndsByFault (reader : Reader) (asked : ExtractWords) (middle : ShelfState
 
 -- an end that is called a fault is that fault
 fault_ended : (reader : Reader) (asked : ExtractWords) (middle : ShelfState) (before after : Objects) (unwritten : Type 0) (bytes : List ℕ) (fault : Fault) (error : ExtractError) → IsSeenAs middle after.shelf asked.from bytes
-    → extraction_failure error ≡ failures.Fault fault → ExtractEnds (asked_by reader) (range_asked asked) middle after.shelf asked.from before.output after.output unwritten error
+    → extraction_failure error ≡ failures.Fault fault → ExtractEnds (decrypting_by reader) (range_asked asked) middle after.shelf asked.from before.output after.output unwritten error
     → EndsByFault reader asked middle before after bytes fault
 fault_ended reader asked middle before after unwritten bytes fault (errors.Fault other) held is ends =
     let same : other ≡ fault = cc in
@@ -221,7 +222,7 @@ fault_ended reader asked middle before after unwritten bytes fault (errors.Outsi
 fault_ended reader asked middle before after unwritten bytes fault errors.Memory held is ends = absurd cc
 
 pub fault_named : (reader : Reader) (asked : ExtractWords) (middle : ShelfState) (before after : Objects) (unwritten : Type 0) (code : ℕ) (bytes : List ℕ) → IsSeenAs middle after.shelf asked.from bytes → middle.given ≤ before.shelf.given + most_file + most_piece → code ≡ 1
-    → Ended (asked_by reader) asked middle before after unwritten code → NamesExtractFault reader asked bytes before after
+    → Ended (decrypting_by reader) asked middle before after unwritten code → NamesExtractFault reader asked bytes before after
 fault_named reader asked middle before after unwritten code bytes held few one (inl (done, (written, extracts))) = absurd (omega (arith, done.status, one))
 fault_named reader asked middle before after unwritten code bytes held few one (inr (error, (ends, said))) =
     let named = fault_status (extraction_failure error) code before.report after.report said one in
@@ -240,8 +241,8 @@ says_what_it_extracts trees asked before after unchanged code runs given keys by
 -- ---- only want of memory keeps a range without a fault from being extracted
 
 no_other_error : (reader : Reader) (asked : ExtractWords) (middle : ShelfState) (before after : Objects) (unwritten : Type 0) (code : ℕ) (bytes : List ℕ) (error : ExtractError) → Holds middle.files asked.from bytes
-    → middle.faults ≡ before.shelf.faults → (extracted_by reader bytes (range_asked asked)).fault ≡ None → NothingFailsOf before after
-    → ExtractEnds (asked_by reader) (range_asked asked) middle after.shelf asked.from before.output after.output unwritten error → error ≡ errors.Memory
+    → middle.faults ≡ before.shelf.faults → (extracted_by reader bytes (range_asked asked)).fault ≡ None → ShelfAndOutputsDontFail before after
+    → ExtractEnds (decrypting_by reader) (range_asked asked) middle after.shelf asked.from before.output after.output unwritten error → error ≡ errors.Memory
 no_other_error reader asked middle before after unwritten code bytes (errors.Fault fault) held same sound nothing ends =
     let found = fault_ended reader asked middle before after unwritten bytes fault (errors.Fault fault) (inl held) refl ends in absurd (let no : None ≡ Some fault = sym sound ∙ found.cause in cc)
 no_other_error reader asked middle before after unwritten code bytes (errors.Outside outsides.SourceFault) held same sound nothing ends = absurd ends
@@ -254,8 +255,8 @@ no_other_error reader asked middle before after unwritten code bytes (errors.Out
 no_other_error reader asked middle before after unwritten code bytes errors.Memory held same sound nothing ends = refl
 
 sound_extracted : (reader : Reader) (asked : ExtractWords) (middle : ShelfState) (before after : Objects) (unwritten : Type 0) (code : ℕ) (bytes : List ℕ) → Holds middle.files asked.from bytes
-    → middle.faults ≡ before.shelf.faults → (extracted_by reader bytes (range_asked asked)).fault ≡ None → NothingFailsOf before after
-    → Ended (asked_by reader) asked middle before after unwritten code → IsDoneOrMemory code
+    → middle.faults ≡ before.shelf.faults → (extracted_by reader bytes (range_asked asked)).fault ≡ None → ShelfAndOutputsDontFail before after
+    → Ended (decrypting_by reader) asked middle before after unwritten code → IsDoneOrMemory code
 sound_extracted reader asked middle before after unwritten code bytes held same sound nothing (inl (done, extracts)) = inl done.status
 sound_extracted reader asked middle before after unwritten code bytes held same sound nothing (inr (error, (ends, said))) =
     inr (memory_status (extraction_failure error) code before.report after.report (ap extraction_failure (no_other_error reader asked middle before after unwritten code bytes error held same sound nothing ends)) said)

@@ -2,13 +2,15 @@
 use Rattle.std.proofs.Common.{◌≡◌, ◌≤◌, ◌∙◌, ℕ, List, [], ◌∷◌, length, true, Some, None, Ok, Err, inl, inr, sym, ap, arith}
 use Rattle.std.specs.declared.option.Option.{Option}
 use Rattle.std.specs.declared.result.Result.{Result}
+use Rattle.std.specs.Prelude.{◌⊎◌}
 use Rattle.esdk_fields.specs.Counts.{Stayed}
 use Rattle.esdk_base.specs.Shelf.{Files, Holds, is_missing}
 use Rattle.esdk_base.specs.Streams.{FailsToRead, ShelfState}
 use Rattle.esdk_fields.specs.declared.refusals.FileRefusal.{FileRefusal}
+use Rattle.esdk_fields.specs.declared.refusals.FileRefusal.TheVariants.{FileTooLong}
 use Rattle.keyring_trait.specs.Keyring.{KeyringMeaning}
-use Rattle.whole_input.specs.File.{IsUnread, most_file}
-use Rattle.esdk_run.specs.FileReading.{FileIs, FileIsRefused}
+use Rattle.whole_input.specs.File.{IsUnread, most_file, IsLong}
+use Rattle.esdk_run.specs.FileReading.{FileIs, RefusesFile}
 use Rattle.esdk_run.specs.Told.{HoldsTree}
 use Rattle.esdk_run.specs.Trees.{TreeIs, Trees}
 
@@ -39,12 +41,12 @@ held_is_read trees old new name tree held stayed unread = no_read_fails old new 
 
 -- it isn't refused
 pub not_refused : {A : Type 0} (read : List ℕ → Result A FileRefusal) (old new : ShelfState) (name bytes : List ℕ) (value : A) (refusal : FileRefusal) → Holds old.files name bytes
-    → length bytes ≤ most_file → read bytes ≡ Ok value → FileIsRefused read old new name refusal → ⊥
+    → length bytes ≤ most_file → read bytes ≡ Ok value → (((refusal ≡ FileTooLong) × IsLong old new name) ⊎ RefusesFile read old new name refusal) → ⊥
 not_refused read old new name bytes value refusal holds few is (inl long) = absurd (omega (arith, few, long.1.many bytes holds))
 not_refused read old new name bytes value refusal holds few is (inr refused) =
     let same : Ok value ≡ Err refusal = sym is ∙ ap read (refused.file.whole bytes holds) ∙ refused.is in absurd cc
 
 pub held_is_taken : (trees : Trees) (old new : ShelfState) (name : List ℕ) (tree : KeyringMeaning) (refusal : FileRefusal) → HoldsTree trees old.files name tree
-    → FileIsRefused trees.read old new name refusal → ⊥
+    → (((refusal ≡ FileTooLong) × IsLong old new name) ⊎ RefusesFile trees.read old new name refusal) → ⊥
 held_is_taken trees old new name tree refusal held refused =
     not_refused trees.read old new name held.bytes (tree ∷ []) refusal held.holds held.few held.is refused

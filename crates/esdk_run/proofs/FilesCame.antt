@@ -2,6 +2,7 @@
 use Rattle.std.proofs.Common.{◌≡◌, ◌∙◌, ℕ, ◌+◌, ◌≤◌, List, ◌++◌, length, map, Bool, false, true, None, Some, inl, inr, refl, sym, ap, subst, arith}
 use Rattle.std.proofs.lemmas.List.{append_cancel_left}
 use Rattle.std.specs.Io.KnownBytes.{Appends}
+use Rattle.std.specs.Prelude.{◌⊎◌}
 use Rattle.esdk_args.specs.declared.request.DecryptWords.{DecryptWords}
 use Rattle.esdk_args.specs.declared.request.EncryptWords.{EncryptWords}
 use Rattle.esdk_args.specs.declared.request.ExtractWords.{ExtractWords}
@@ -21,7 +22,7 @@ use Rattle.audit_core.proofs.Came.{finds_what_came}
 use Rattle.esdk_encrypt.proofs.Gaining.{seals_what_came}
 use Rattle.esdk_encrypt.proofs.Telling.{encrypts_more}
 use Rattle.esdk_decrypt.specs.Decrypt.{Decrypts}
-use Rattle.esdk_decrypt.specs.Told.{Reader, asked_by}
+use Rattle.esdk_decrypt.specs.Told.{Reader, decrypting_by}
 use Rattle.extract_core.specs.declared.errors.ExtractError.TheVariants as errors
 use Rattle.whole_input.specs.File.{most_file}
 use Rattle.whole_input.specs.FileReads.{Grows, IsSeenAs}
@@ -29,19 +30,19 @@ use Rattle.whole_input.specs.Pieces.{most_piece}
 use Rattle.esdk_report.specs.Report.{Reports}
 use Rattle.esdk_report.specs.declared.failure.Failure.{Failure}
 use Rattle.esdk_report.specs.declared.failure.Failure.TheVariants as failures
-use Rattle.esdk_run.specs.ArmouredMessage.{form_of, output_gains}
+use Rattle.esdk_run.specs.ArmouredMessage.{output_form, output_gains}
 use Rattle.esdk_run.specs.Audit.{WritesAudit, audit_status}
 use Rattle.esdk_run.specs.Batch.{RunsWithin}
 use Rattle.esdk_run.specs.Decrypt.{DecryptsInput, decrypt_asked, reader_of}
 use Rattle.esdk_run.specs.Encrypt.{EncryptsInput, encrypt_asked, refusal_asked, run_writer}
 use Rattle.esdk_run.specs.Extract.{ExtractFails, ExtractionFails, HasTreeFor, extract_asked, extract_reader}
 use Rattle.esdk_run.specs.Objects.{Objects, Unchanged}
-use Rattle.esdk_run.specs.Read.{ReadsWhole, SaysWhatIsReadAs}
+use Rattle.esdk_run.specs.Read.{DecryptReadsWhole, SaysWhatIsReadAs}
 use Rattle.esdk_run.specs.Run.{AuditRuns, BatchRuns, DecryptRuns, EncryptRuns, ExtractRuns, RunsAllJobs, TellsOrLacksMemory}
 use Rattle.esdk_run.specs.Serving.{managing_over}
 use Rattle.esdk_run.specs.Trees.{TreeIs, Trees}
 use Rattle.esdk_run.specs.UnarmouredDecrypt.{DecryptsAs}
-use Rattle.esdk_run.specs.FilesCame.{AuditedWhatCame, AuditsIfDone, BatchedWhatCame, BatchesIfRun, ComeToWhatIsShown, ExtractsIfDone, NamesIfFault, ReadsOfWhatCame, ShowsWhatCame}
+use Rattle.esdk_run.specs.FilesCame.{AuditedWhatCame, BatchedWhatCame, ComeToWhatIsShown, ReadsOfWhatCame, ShowsWhatCame}
 use Rattle.esdk_run.proofs.WhatCame.{tree_came}
 use Rattle.esdk_run.proofs.Auditing.{told_many}
 use Rattle.esdk_run.proofs.Decryption.{reader_ends}
@@ -49,12 +50,13 @@ use Rattle.esdk_run.proofs.Extraction.{Ended, fault_named, range_gained, reader_
 use Rattle.esdk_run.proofs.Keys.{told_says_more}
 use Rattle.esdk_run.proofs.Reading.{Ending, says_what_is_read}
 use Rattle.esdk_run.proofs.Statuses.{fault_status, not_done, not_seven}
+use Rattle.esdk_run.specs.ExtractTold.{GainsRange, NamesExtractFault}
 
 -- ---- `extract`
 
 of_what_came : (So : Reader → List ℕ → Type 0) (trees : Trees) (asked : ExtractWords) (before after : Objects) (unwritten : Type 0) (code : ℕ) (t : HasTreeFor trees asked before after) → Grows t.middle.calls after.shelf.calls
     → Ended (extract_asked asked t.given t.tree t.left) asked t.middle before after unwritten code
-    → ((reader : Reader) (bytes : List ℕ) → IsSeenAs t.middle after.shelf asked.from bytes → t.middle.given ≤ before.shelf.given + most_file + most_piece → Ended (asked_by reader) asked t.middle before after unwritten code → So reader bytes)
+    → ((reader : Reader) (bytes : List ℕ) → IsSeenAs t.middle after.shelf asked.from bytes → t.middle.given ≤ before.shelf.given + most_file + most_piece → Ended (decrypting_by reader) asked t.middle before after unwritten code → So reader bytes)
     → ReadsOfWhatCame trees asked before after So
 of_what_came So trees asked before after unwritten code t grown ended so = record {
   given = t.given;
@@ -71,7 +73,7 @@ of_what_came So trees asked before after unwritten code t grown ended so = recor
 }
 
 pub extracts_if_done : (trees : Trees) (asked : ExtractWords) (before after : Objects) (unchanged : Unchanged) (code : ℕ)
-    → ExtractRuns trees asked before after unchanged code → ExtractsIfDone trees asked before after code
+    → ExtractRuns trees asked before after unchanged code → code ≡ 0 → ReadsOfWhatCame trees asked before after (λ reader bytes. GainsRange reader asked bytes before after)
 extracts_if_done trees asked before after unchanged code (inl done) zero =
     let t = done.1.tree_for in
     of_what_came _ trees asked before after unchanged.output code t done.1.grown (inl (done.0, (done.1.written, done.1.done)))
@@ -80,7 +82,7 @@ extracts_if_done trees asked before after unchanged code (inr fails) zero =
     absurd (not_done fails.failure code before.report after.report fails.said zero)
 
 pub names_if_fault : (trees : Trees) (asked : ExtractWords) (before after : Objects) (unchanged : Unchanged) (code : ℕ)
-    → ExtractRuns trees asked before after unchanged code → NamesIfFault trees asked before after code
+    → ExtractRuns trees asked before after unchanged code → code ≡ 1 → ReadsOfWhatCame trees asked before after (λ reader bytes. NamesExtractFault reader asked bytes before after)
 names_if_fault trees asked before after unchanged code (inl done) one = absurd (omega (arith, done.0.status, one))
 names_if_fault trees asked before after unchanged code (inr fails) one =
     let named = fault_status fails.failure code before.report after.report fails.said one in
@@ -128,7 +130,7 @@ audited_files trees name before after code done =
     }
 
 pub audits_if_done : (trees : Trees) (name : List ℕ) (before after : Objects) (unchanged : Unchanged) (code : ℕ) → AuditRuns trees name before after unchanged code
-    → AuditsIfDone trees name before after code
+    → (code ≡ 0) ⊎ (code ≡ 7) → AuditedWhatCame trees name before after code
 audits_if_done trees name before after unchanged code (inl done) ended = audited_files trees name before after code done.0
 audits_if_done trees name before after unchanged code (inr fails) (inl zero) = absurd (not_done fails.failure code before.report after.report fails.said zero)
 audits_if_done trees name before after unchanged code (inr fails) (inr seven) = absurd (not_seven fails.failure code before.report after.report fails.said seven)
@@ -161,7 +163,7 @@ batched_files trees name before after code all =
     }
 
 pub batches_if_run : (trees : Trees) (name : List ℕ) (before after : Objects) (unchanged : Unchanged) (code : ℕ) → BatchRuns trees name before after unchanged code
-    → BatchesIfRun trees name before after code
+    → (code ≡ 0) ⊎ (code ≡ 7) → BatchedWhatCame trees name before after code
 batches_if_run trees name before after unchanged code (inl all) ended = batched_files trees name before after code all
 batches_if_run trees name before after unchanged code (inr fails) (inl zero) = absurd (not_done fails.failure code before.report after.report fails.said zero)
 batches_if_run trees name before after unchanged code (inr fails) (inr seven) = absurd (not_seven fails.failure code before.report after.report fails.said seven)

@@ -13,7 +13,7 @@ use Rattle.esdk_fields.specs.declared.faults.Fault.TheVariants as faults
 use Rattle.esdk_fields.specs.Limits.{is_over}
 use Rattle.esdk_fields.specs.Numbers.{from_big_endian}
 use Rattle.esdk_fields.specs.Place.{Place, past, start}
-use Rattle.esdk_fields.specs.Reading.{Reading, Read, Refused, Wanting, Reader, ◌>>=◌, ◌>>◌, bytes, done, field, here, judge, number, refuse_if, repeat, then_read}
+use Rattle.esdk_fields.specs.Reading.{Reading, Read, Refused, Wanting, FieldReader, ◌>>=◌, ◌>>◌, bytes, done, field, here, judge, number, refuse_if, repeat, then_read}
 use Rattle.context_codec.specs.Context.{KeyValue}
 use Rattle.context_codec.specs.Split.{context_fault}
 use Rattle.suite_table.specs.declared.suite.Suite.{Suite}
@@ -21,11 +21,11 @@ use Rattle.suite_table.specs.declared.suite.Suite.TheVariants.{Committing, Uncom
 use Rattle.suite_table.specs.Suites.{data_length, id_length, suite_id}
 use Rattle.header_codec.specs.declared.settings.Settings.{Settings}
 use Rattle.header_codec.specs.Header.{HeaderValue, latest_end}
-use Rattle.header_codec.specs.Table.{Head, content, content_of, context_field, data_keys, entry, header, header_iv, identity, is_content_type, is_forbidden, is_frame_length, is_unit_over, is_version, opening, part, reserved, suite_field, suite_of_version, type_field}
+use Rattle.header_codec.specs.Table.{HeaderFields, content_field, content_of, context_field, data_keys, entry, header, header_iv, identity, is_content_type, is_forbidden, is_frame_length, is_unit_over, is_version, opening, entry_part, reserved, suite_field, suite_of_version, type_field}
 use Rattle.header_codec.proofs.Steps.{after_version, after_type, after_suite_id, after_suite, after_type_field, after_context_length, after_part_length, after_part_end, after_provider, after_info, after_count, after_kind, after_iv_length, after_zeros, after_reserved, after_type_of_content, after_frame, after_opening, after_context, after_keys, after_content, after_commitment, after_size, after_iv, head_with}
 use Rattle.frame_codec.specs.declared.unit_heads.UnitHead.{UnitHead}
 use Rattle.frame_codec.specs.UnitHead.{final_mark, longest_block, regular_start, final_start, frame_start, block_start, unit_head}
-use Rattle.frame_codec.specs.Unit.{Piece, More, Last, Under, block, frame, opened_unit, opens, piece_of, unit}
+use Rattle.frame_codec.specs.Unit.{Piece, More, Last, Under, block_unit, frame, opened_unit, opens, piece_of, unit}
 use Rattle.frame_codec.proofs.Steps.{made_regular, made_final, made_block, after_length, after_final_number, after_number, after_block_length, after_block_iv, after_tag, after_cipher, after_head}
 use Rattle.frame_codec.proofs.Steps.{after_iv as after_final_iv}
 use Rattle.keyring_trait.specs.Manager.{FaultStands, ManagerNow}
@@ -51,20 +51,20 @@ is_format fault = true
 -- ---- readers
 
 -- Whatever it reads, it refuses that for no other fault.
-pub record Names {A : Type 0} (m : Reader A) : Type 0 where
+pub record Names {A : Type 0} (m : FieldReader A) : Type 0 where
   pub each : (p : Place) (fault : Fault) (at : ℕ) → m p ≡ Refused fault at → is_format fault ≡ true
 
-bind_each : {A B : Type 0} (m : Reader A) (f : A → Reader B) (p : Place) (fault : Fault) (at : ℕ) (r : Reading A) → Names m → ((x : A) → Names (f x))
+bind_each : {A B : Type 0} (m : FieldReader A) (f : A → FieldReader B) (p : Place) (fault : Fault) (at : ℕ) (r : Reading A) → Names m → ((x : A) → Names (f x))
     → m p ≡ r → then_read r f ≡ Refused fault at → is_format fault ≡ true
 bind_each m f p fault at (Read x next) first others is e = (others x).each next fault at e
 bind_each m f p fault at (Refused other place) first others is e =
     let same : other ≡ fault = cc e in subst (λ (f : Fault). is_format f ≡ true) same (first.each p other place is)
 bind_each m f p fault at Wanting first others is e = absurd (cc e)
 
-names_bind : {A B : Type 0} (m : Reader A) (f : A → Reader B) → Names m → ((x : A) → Names (f x)) → Names (m >>= f)
+names_bind : {A B : Type 0} (m : FieldReader A) (f : A → FieldReader B) → Names m → ((x : A) → Names (f x)) → Names (m >>= f)
 names_bind m f first others = record { each = λ p fault at e. bind_each m f p fault at (m p) first others refl e }
 
-names_then : {A B : Type 0} (m : Reader A) (k : Reader B) → Names m → Names k → Names (m >> k)
+names_then : {A B : Type 0} (m : FieldReader A) (k : FieldReader B) → Names m → Names k → Names (m >> k)
 names_then m k first second = names_bind m (λ _. k) first (λ _. second)
 
 names_done : {A : Type 0} (x : A) → Names (done x)
@@ -94,11 +94,11 @@ names_bytes n = names_field (λ b. b) n
 names_number : (w : Width) → Names (number w)
 names_number w = names_field (from_big_endian w) (byte_len w)
 
-names_if : {A : Type 0} (b : Bool) (m k : Reader A) → Names m → Names k → Names (cond b m k)
+names_if : {A : Type 0} (b : Bool) (m k : FieldReader A) → Names m → Names k → Names (cond b m k)
 names_if true m k first second = first
 names_if false m k first second = second
 
-names_repeat : {A : Type 0} (m : Reader A) → Names m → (n : ℕ) → Names (repeat m n)
+names_repeat : {A : Type 0} (m : FieldReader A) → Names m → (n : ℕ) → Names (repeat m n)
 unfolding repeat
 names_repeat m each zero = names_done []
 names_repeat m each (suc n) =
@@ -142,8 +142,8 @@ names_context_field =
     (λ n. names_bind (bytes n) (λ context. judge (option_map BadContext (context_fault context)) >> done context) (names_bytes n)
     (λ context. names_then (judge (option_map BadContext (context_fault context))) (done context) (names_context (context_fault context)) (names_done context)))
 
-names_part : Names part
-unfolding part
+names_part : Names entry_part
+unfolding entry_part
 names_part =
     names_bind (number w16) after_part_length (names_number w16)
     (λ n. names_bind here (after_part_end n) names_here
@@ -152,9 +152,9 @@ names_part =
 names_entry : Names entry
 unfolding entry
 names_entry =
-    names_bind part after_provider names_part
-    (λ provider. names_bind part (after_info provider) names_part
-    (λ info. names_bind part (λ cipher. done (record { provider = provider; info = info; cipher = cipher })) names_part
+    names_bind entry_part after_provider names_part
+    (λ provider. names_bind entry_part (after_info provider) names_part
+    (λ info. names_bind entry_part (λ cipher. done (record { provider = provider; info = info; cipher = cipher })) names_part
     (λ cipher. names_done (record { provider = provider; info = info; cipher = cipher }))))
 
 names_data_keys : (max_keys : Option ℕ) → Names (data_keys max_keys)
@@ -179,8 +179,8 @@ names_after_reserved max_unit kind =
     (names_refuse_if (not (is_frame_length kind frame)) (BadFrameLength frame) refl)
     (names_then (refuse_if (is_unit_over max_unit kind frame) (UnitTooLong frame)) (done (content_of kind frame)) (names_refuse_if (is_unit_over max_unit kind frame) (UnitTooLong frame) refl) (names_done (content_of kind frame))))
 
-names_content : (suite : Suite) (max_unit : Option ℕ) → Names (content suite max_unit)
-unfolding content
+names_content : (suite : Suite) (max_unit : Option ℕ) → Names (content_field suite max_unit)
+unfolding content_field
 names_content suite max_unit =
     names_bind (number w8) (after_kind suite max_unit) (names_number w8)
     (λ kind. names_then (refuse_if (not (is_content_type kind)) (BadContentType kind)) (after_type_of_content suite max_unit kind) (names_refuse_if (not (is_content_type kind)) (BadContentType kind) refl)
@@ -197,7 +197,7 @@ names_header settings =
     names_bind (opening settings.uncommitted) (after_opening settings) (names_opening settings.uncommitted)
     (λ o. names_bind context_field (after_context settings o) names_context_field
     (λ context. names_bind (data_keys settings.max_keys) (after_keys settings o context) (names_data_keys settings.max_keys)
-    (λ entries. names_bind (content o.suite settings.max_unit) (after_content o context entries) (names_content o.suite settings.max_unit)
+    (λ entries. names_bind (content_field o.suite settings.max_unit) (after_content o context entries) (names_content o.suite settings.max_unit)
     (λ kind. names_bind (bytes (data_length o.suite)) (after_commitment o context entries kind) (names_bytes (data_length o.suite))
     (λ commitment. names_bind here (after_size o context entries kind commitment) names_here
     (λ size. names_bind (header_iv o.suite) (after_iv o context entries kind commitment size) (names_header_iv o.suite)
@@ -262,8 +262,8 @@ names_frame : (frame_length : ℕ) (u : Under) (k : ℕ) → Names (frame frame_
 unfolding frame
 names_frame frame_length u k = names_unit (contents.Framed frame_length) None u.key u.id (k + 1)
 
-names_block : (max_unit : Option ℕ) (key id : List ℕ) → Names (block max_unit key id)
-unfolding block
+names_block : (max_unit : Option ℕ) (key id : List ℕ) → Names (block_unit max_unit key id)
+unfolding block_unit
 names_block max_unit key id = names_unit contents.Single max_unit key id 1
 
 -- ---- bodies
@@ -276,14 +276,14 @@ behind_format : (b : Bool) → NamesFormat (if b then Whole else Faulty faults.T
 behind_format true fault e = absurd (cc e)
 behind_format false fault e = let same : faults.TrailingBytes ≡ fault = cc e in subst (λ (f : Fault). is_format f ≡ true) same refl
 
-reading_format : (m : Reader Piece) (p : Place) (r : Reading Piece) → Names m → m p ≡ r → NamesFormat (verdict_of r)
+reading_format : (m : FieldReader Piece) (p : Place) (r : Reading Piece) → Names m → m p ≡ r → NamesFormat (verdict_of r)
 reading_format m p (Read (More text) next) names is fault e = absurd (cc e)
 reading_format m p (Read (Last text) next) names is fault e = behind_format (length next.left == 0) fault e
 reading_format m p (Refused other at) names is fault e =
     let same : other ≡ fault = cc e in subst (λ (f : Fault). is_format f ≡ true) same (names.each p other at is)
 reading_format m p Wanting names is fault e = absurd (cc e)
 
-units_format : (width : ℕ) (each : ℕ → Reader Piece) (p : Place) → ((k : ℕ) → Names (each k)) → NamesFormat (judged_units width each p).verdict
+units_format : (width : ℕ) (each : ℕ → FieldReader Piece) (p : Place) → ((k : ℕ) → Names (each k)) → NamesFormat (judged_units width each p).verdict
 unfolding judged_units
 units_format width each p names =
     let n : ℕ = first_other width each p in
@@ -291,7 +291,7 @@ units_format width each p names =
 
 body_format : (content : Content) (max_unit : Option ℕ) (key id : List ℕ) (p : Place) → NamesFormat (judged_body content max_unit key id p).verdict
 unfolding judged_body judged_frames judged_block
-body_format contents.Single max_unit key id p = units_format 1 (λ k. block max_unit key id) p (λ k. names_block max_unit key id)
+body_format contents.Single max_unit key id p = units_format 1 (λ k. block_unit max_unit key id) p (λ k. names_block max_unit key id)
 body_format (contents.Framed n) max_unit key id p =
     let u : Under = record { key = key; id = id } in units_format (n + beside_content) (frame n u) p (names_frame n u)
 
@@ -322,14 +322,14 @@ header_format settings h p (Refuses other) answers fault e =
 header_format settings h p (Unlocks whole only key) answers fault e = locked_format settings h only key p (lock_fault h only key) refl fault e
 
 -- the answer plays a part where a header was read
-message_format : (b : List ℕ) (settings : Settings) (answer : Unlocking) (r : Reading Head) → header settings (start b) ≡ r
-    → ((parts : Head) (end : Place) → r ≡ Read parts end → AnswersFormat answer) → NamesFormat (judged_reading b settings answer r).verdict
+message_format : (b : List ℕ) (settings : Settings) (answer : Unlocking) (r : Reading HeaderFields) → header settings (start b) ≡ r
+    → ((parts : HeaderFields) (end : Place) → r ≡ Read parts end → AnswersFormat answer) → NamesFormat (judged_reading b settings answer r).verdict
 message_format b settings answer (Refused other at) is answers fault e =
     let same : other ≡ fault = cc e in subst (λ (f : Fault). is_format f ≡ true) same ((names_header settings).each (start b) other at is)
 message_format b settings answer Wanting is answers fault e = absurd (cc e)
 message_format b settings answer (Read parts end) is answers fault e = header_format settings (header_of b parts) end answer (answers parts end refl) fault e
 
-pub judged_format : (b : List ℕ) (settings : Settings) (answer : Unlocking) → ((parts : Head) (end : Place) → header settings (start b) ≡ Read parts end → AnswersFormat answer)
+pub judged_format : (b : List ℕ) (settings : Settings) (answer : Unlocking) → ((parts : HeaderFields) (end : Place) → header settings (start b) ≡ Read parts end → AnswersFormat answer)
     → NamesFormat (judged b settings answer).verdict
 unfolding judged
 judged_format b settings answer answers = message_format b settings answer (header settings (start b)) refl answers
@@ -350,9 +350,9 @@ stands_format tells request fault stands = absurd stands
 
 -- a fault that it answers to a whole header is one of these
 answers_format : (old new : ManagerNow) (now : ℕ) (settings : Settings) (given : List KeyValue) (b : List ℕ) (answer : Unlocking)
-    → AnswersTo (answering_of old new now) settings given b answer → (parts : Head) (end : Place) → header settings (start b) ≡ Read parts end → AnswersFormat answer
+    → AnswersTo (answering_of old new now) settings given b answer → (parts : HeaderFields) (end : Place) → header settings (start b) ≡ Read parts end → AnswersFormat answer
 answers_format old new now settings given b answer answers parts end is fault refuses =
-    let at : AnswersReading (answering_of old new now) given b (Read parts end) answer = subst (λ (r : Reading Head). AnswersReading (answering_of old new now) given b r answer) is answers in
+    let at : AnswersReading (answering_of old new now) given b (Read parts end) answer = subst (λ (r : Reading HeaderFields). AnswersReading (answering_of old new now) given b r answer) is answers in
     let none : AnswersRequest (answering_of old new now) (request_of given (header_of b parts)) (Refuses fault) =
     subst (λ (a : Unlocking). AnswersRequest (answering_of old new now) (request_of given (header_of b parts)) a) refuses at in
     stands_format old.tells (request_of given (header_of b parts)) fault none.0

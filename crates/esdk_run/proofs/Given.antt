@@ -14,7 +14,7 @@ use Rattle.context_codec.specs.declared.insert.PairError.{PairError}
 use Rattle.context_codec.specs.declared.insert.PairError.TheVariants as errors
 use Rattle.context_codec.specs.Context.{KeyValue, IsContext}
 use Rattle.context_codec.specs.Insert.{RefusesAs, refusal_of}
-use Rattle.esdk_run.specs.Pairs.{GivesContext, RefusesPairs, context_in, inserted, pair_in, pairs_in, unless_refused}
+use Rattle.esdk_run.specs.Pairs.{GivesContext, RefusesPairs, context_in, inserted, pair_in, pairs_of_words, unless_refused}
 
 -- words give one context
 pub one_context : (words : List PairWord) (c d : List KeyValue) → context_in words ≡ Ok c → context_in words ≡ Ok d → c ≡ d
@@ -50,10 +50,10 @@ from_word words i word lt at = drop_more words i word lt ∙ ap (λ (w : PairWor
 
 -- What the words from this one on come to is what comes of those behind it, once its pair was inserted.
 pub inserted_more : (words : List PairWord) (i : ℕ) (word : PairWord) (old new : List KeyValue) → i < length words → word ≡ get_or words i word
-    → inserted old (option_to_list (pair_in word)) ≡ Ok new → inserted old (pairs_in (drop i words)) ≡ inserted new (pairs_in (drop (i + 1) words))
+    → inserted old (option_to_list (pair_in word)) ≡ Ok new → inserted old (pairs_of_words (drop i words)) ≡ inserted new (pairs_of_words (drop (i + 1) words))
 unfolding inserted
 inserted_more words i word old new lt at is =
-    ap (λ (ws : List PairWord). inserted old (pairs_in ws)) (from_word words i word lt at) ∙ by_pair (pair_in word) (pairs_in (drop (i + 1) words)) is
+    ap (λ (ws : List PairWord). inserted old (pairs_of_words ws)) (from_word words i word lt at) ∙ by_pair (pair_in word) (pairs_of_words (drop (i + 1) words)) is
   where
     by_pair : (o : Option KeyValue) (more : List KeyValue) → inserted old (option_to_list o) ≡ Ok new → inserted old (cons_option o more) ≡ inserted new more
     by_pair None more is' = ap (λ (c : List KeyValue). inserted c more) (let same : Ok old ≡ Ok new = is' in cc)
@@ -66,10 +66,10 @@ inserted_more words i word old new lt at is =
 
 -- A word whose pair is refused ends it.
 pub refused_more : (words : List PairWord) (i : ℕ) (word : PairWord) (old : List KeyValue) (e : PairError) → i < length words → word ≡ get_or words i word
-    → RefusesPairs (inserted old (option_to_list (pair_in word))) e → RefusesPairs (inserted old (pairs_in (drop i words))) e
+    → RefusesPairs (inserted old (option_to_list (pair_in word))) e → RefusesPairs (inserted old (pairs_of_words (drop i words))) e
 unfolding inserted
 refused_more words i word old (errors.Refusal refusal) lt at is =
-    ap (λ (ws : List PairWord). inserted old (pairs_in ws)) (from_word words i word lt at) ∙ by_pair (pair_in word) (pairs_in (drop (i + 1) words)) is
+    ap (λ (ws : List PairWord). inserted old (pairs_of_words ws)) (from_word words i word lt at) ∙ by_pair (pair_in word) (pairs_of_words (drop (i + 1) words)) is
   where
     by_pair : (o : Option KeyValue) (more : List KeyValue) → inserted old (option_to_list o) ≡ Err refusal → inserted old (cons_option o more) ≡ Err refusal
     by_pair None more is' = absurd cc
@@ -82,10 +82,10 @@ refused_more words i word old (errors.Refusal refusal) lt at is =
 refused_more words i word old errors.Memory lt at is = tt
 
 -- No words are left.
-pub gives_context : (words : List PairWord) (i : ℕ) (c : List KeyValue) → inserted [] (pairs_in words) ≡ inserted c (pairs_in (drop i words)) → length words ≤ i → IsContext c → GivesContext words c
+pub gives_context : (words : List PairWord) (i : ℕ) (c : List KeyValue) → inserted [] (pairs_of_words words) ≡ inserted c (pairs_of_words (drop i words)) → length words ≤ i → IsContext c → GivesContext words c
 unfolding inserted
 gives_context words i c so_far end is = record {
-  made = so_far ∙ ap (λ (ws : List PairWord). inserted c (pairs_in ws)) (drop_all i words end);
+  made = so_far ∙ ap (λ (ws : List PairWord). inserted c (pairs_of_words ws)) (drop_all i words end);
   is = is;
 }
 

@@ -1,6 +1,7 @@
 -- What a run keeps beside what follows from its course, command by command.
 use Rattle.std.proofs.Common.{◌≡◌, ℕ, List, ◌+◌, ◌≤◌, ◌^◌, Some, None, Ok, Err, true, false, refl, sym, subst, arith}
 use Rattle.std.specs.declared.option.Option.{Option}
+use Rattle.std.specs.Prelude.{◌⊎◌}
 use Rattle.esdk_args.specs.declared.request.DecryptWords.{DecryptWords}
 use Rattle.esdk_args.specs.declared.request.EncryptWords.{EncryptWords}
 use Rattle.esdk_args.specs.declared.request.ExtractWords.{ExtractWords}
@@ -13,28 +14,28 @@ use Rattle.esdk_args.specs.declared.request.WordsFault.TheVariants as unread
 use Rattle.esdk_args.specs.Faults.{AnswersWords}
 use Rattle.esdk_base.specs.Streams.{OnTold, SinkState}
 use Rattle.esdk_fields.specs.declared.faults.Fault.{Fault}
-use Rattle.esdk_list.specs.List.{input_fault}
+use Rattle.esdk_list.specs.List.{listing_fault}
 use Rattle.esdk_report.specs.Report.{Reports}
 use Rattle.esdk_report.specs.declared.failure.Failure.TheVariants as failures
-use Rattle.esdk_run.specs.Ages.{KeepsAges}
 use Rattle.esdk_run.specs.Failures.{words_failure}
 use Rattle.esdk_run.specs.Objects.{Objects, Unchanged}
 use Rattle.esdk_run.specs.Promises.{On, Ticks, Words}
-use Rattle.esdk_run.specs.Run.{AgreesWith, draws, reads_clock, reads_input, reads_shelf, writes_shelf}
+use Rattle.esdk_run.specs.Run.{AgreesWith, draws, reads_input, reads_shelf, is_batch}
 use Rattle.esdk_run.specs.Unarmoured.{outlook_of}
 use Rattle.esdk_run.proofs.Ages.{no_ages}
 use Rattle.esdk_run.proofs.Statuses.{memory_status}
+use Rattle.esdk_run.specs.Ages.{ShowsAges}
 
 -- What a run promises that doesn't follow from its course.
 pub record Keeps (words : Words) (before after : Objects) (unchanged : Unchanged) (time : Ticks) (code : ℕ) : Type 0 where
-  pub files : writes_shelf words ≡ false → after.shelf.files ≡ before.shelf.files
+  pub files : is_batch words ≡ false → after.shelf.files ≡ before.shelf.files
   pub shelf : reads_shelf words ≡ false → unchanged.shelf
   pub input : reads_input words ≡ false → unchanged.input
   pub entropy : draws words ≡ false → unchanged.entropy
-  pub clock : reads_clock words ≡ false → time.same
+  pub clock : is_batch words ≡ false → time.same
   pub taken : after.input.given ≤ before.input.given + 2 ^ 62
-  pub judged : On requests.List words (λ asked. OnTold before.input.left (λ bytes. AgreesWith code (input_fault asked.uncommitted (outlook_of asked.armour bytes).bytes)))
-  pub ages : On requests.Batch words (λ name. KeepsAges name before.shelf before.output after.output time.before time.after code)
+  pub judged : On requests.List words (λ asked. OnTold before.input.left (λ bytes. AgreesWith code (listing_fault asked.uncommitted (outlook_of asked.armour bytes).bytes)))
+  pub ages : On requests.Batch words (λ name. (code ≡ 0) ⊎ (code ≡ 7) → ShowsAges name before.shelf before.output after.output time.before time.after)
 
 never : true ≡ false → ⊥
 never same = cc
@@ -45,7 +46,7 @@ none_taken before after same = omega (arith, same)
 
 pub list_keeps : (words : Words) (asked : ListWords) (before after : Objects) (unchanged : Unchanged) (time : Ticks) (code : ℕ)
     → words ≡ Ok (requests.List asked) → after.shelf.files ≡ before.shelf.files → unchanged.shelf → unchanged.entropy → time.same
-    → after.input.given ≤ before.input.given + 2 ^ 62 → OnTold before.input.left (λ bytes. AgreesWith code (input_fault asked.uncommitted (outlook_of asked.armour bytes).bytes))
+    → after.input.given ≤ before.input.given + 2 ^ 62 → OnTold before.input.left (λ bytes. AgreesWith code (listing_fault asked.uncommitted (outlook_of asked.armour bytes).bytes))
     → Keeps words before after unchanged time code
 list_keeps words asked before after unchanged time code is files shelf entropy clock taken judged =
     subst (λ (w : Words). Keeps w before after unchanged time code) (sym is) (record {
@@ -58,7 +59,7 @@ list_keeps words asked before after unchanged time code is files shelf entropy c
       judged = λ other same.
           let both : Ok (requests.List asked) ≡ Ok (requests.List other) = same in
           let one : asked ≡ other = cc in
-          subst (λ (a : ListWords). OnTold before.input.left (λ bytes. AgreesWith code (input_fault a.uncommitted (outlook_of a.armour bytes).bytes))) one judged;
+          subst (λ (a : ListWords). OnTold before.input.left (λ bytes. AgreesWith code (listing_fault a.uncommitted (outlook_of a.armour bytes).bytes))) one judged;
       ages = λ name no. absurd cc;
     })
 
@@ -109,7 +110,7 @@ migrate_keeps words asked before after unchanged time code is files input entrop
 
 pub batch_keeps : (words : Words) (name : List ℕ) (before after : Objects) (unchanged : Unchanged) (time : Ticks) (code : ℕ)
     → words ≡ Ok (requests.Batch name) → unchanged.input → after.input.given ≡ before.input.given
-    → KeepsAges name before.shelf before.output after.output time.before time.after code → Keeps words before after unchanged time code
+    → ((code ≡ 0) ⊎ (code ≡ 7) → ShowsAges name before.shelf before.output after.output time.before time.after) → Keeps words before after unchanged time code
 batch_keeps words name before after unchanged time code is input taken ages =
     subst (λ (w : Words). Keeps w before after unchanged time code) (sym is) (record {
       files = λ no. absurd (never no);
@@ -122,7 +123,7 @@ batch_keeps words name before after unchanged time code is input taken ages =
       ages = λ other same.
           let both : Ok (requests.Batch name) ≡ Ok (requests.Batch other) = same in
           let one : name ≡ other = cc in
-          subst (λ (n : List ℕ). KeepsAges n before.shelf before.output after.output time.before time.after code) one ages;
+          subst (λ (n : List ℕ). (code ≡ 0) ⊎ (code ≡ 7) → ShowsAges n before.shelf before.output after.output time.before time.after) one ages;
     })
 
 pub extract_keeps : (words : Words) (asked : ExtractWords) (before after : Objects) (unchanged : Unchanged) (time : Ticks) (code : ℕ)
@@ -193,13 +194,13 @@ five_agrees code None five = λ one. absurd (omega (arith, five, one))
 five_agrees code (Some fault) five = λ zero. absurd (omega (arith, five, zero))
 
 five_agrees_told : (code : ℕ) (asked : ListWords) (left : Option (List ℕ)) → code ≡ 5
-    → OnTold left (λ bytes. AgreesWith code (input_fault asked.uncommitted (outlook_of asked.armour bytes).bytes))
+    → OnTold left (λ bytes. AgreesWith code (listing_fault asked.uncommitted (outlook_of asked.armour bytes).bytes))
 five_agrees_told code asked None five = tt
-five_agrees_told code asked (Some bytes) five = five_agrees code (input_fault asked.uncommitted (outlook_of asked.armour bytes).bytes) five
+five_agrees_told code asked (Some bytes) five = five_agrees code (listing_fault asked.uncommitted (outlook_of asked.armour bytes).bytes) five
 
 refused_judged : (words : Words) (asked : ListWords) (fault : WordsFault) (code : ℕ) (left : Option (List ℕ)) (report reported : SinkState)
     → AnswersWords (Err fault) words → Reports (words_failure fault) code report reported → words ≡ Ok (requests.List asked)
-    → OnTold left (λ bytes. AgreesWith code (input_fault asked.uncommitted (outlook_of asked.armour bytes).bytes))
+    → OnTold left (λ bytes. AgreesWith code (listing_fault asked.uncommitted (outlook_of asked.armour bytes).bytes))
 refused_judged words asked unread.NotRead code left report reported answers said is = absurd cc
 refused_judged words asked (unread.BadNumber name) code left report reported answers said is = absurd cc
 refused_judged words asked (unread.BadPair number) code left report reported answers said is = absurd cc

@@ -17,13 +17,13 @@ use Rattle.keyring_trait.specs.Materials.{DecMaterialsValue, EncMaterialsValue}
 use Rattle.keyring_trait.specs.Requests.{DecRequestValue, EncRequestValue}
 use Rattle.keyring_trait.specs.Unlocking.{Unlocks, unlock}
 use Rattle.keyring_trait.specs.Wrapping.{WrapKeyValue, active, ivs_of, made, unwrapped}
-use Rattle.esdk_encrypt.specs.Told.{NoneFor, asked_by, materials_of}
+use Rattle.esdk_encrypt.specs.Told.{NoneForRequest, encrypting_by, drawn_materials}
 use Rattle.esdk_encrypt.proofs.Fitting.{IsGranted, unrefused_memory}
 use Rattle.esdk_encrypt.proofs.Telling.{SaysMore}
 use Rattle.esdk_decrypt.specs.Told.{answering_by}
-use Rattle.esdk_decrypt.specs.Told.{NoneFor as NoneRead}
+use Rattle.esdk_decrypt.specs.Told.{NoneForAnswer as NoneRead}
 use Rattle.esdk_decrypt.proofs.Told.{Allows, offence_unlocks, sound_unlocks}
-use Rattle.esdk_run.specs.Decrypt.{TreeFinds, TreeFindsNone, limits_of, reader_of}
+use Rattle.esdk_run.specs.Decrypt.{TreeFinds, TreeFindsNone, decrypt_settings, reader_of}
 use Rattle.esdk_run.specs.Encrypt.{encrypt_asked, refusal_asked, request_asked, run_writer}
 use Rattle.esdk_run.specs.Giving.{TreeGives}
 use Rattle.esdk_run.specs.Pairs.{required_in}
@@ -37,7 +37,7 @@ keys_wrap tree keys lawful told = sym (subst (λ (o : Option (List WrapKeyValue)
 -- its materials are those of the keys
 pub materials_told : (refusal : Option Refusal) (tree : KeyringMeaning) (keys : List WrapKeyValue) (request : EncRequestValue) (size : ℕ) (most : Option ℕ) (random : List ℕ) (m : EncMaterialsValue)
     → IsLawful tree → tree.keys ≡ Some keys → TreeGives refusal tree request random m
-    → m ≡ materials_of (record { keys = keys; context = request.context; required = request.required; size = size; max_keys = most }) random
+    → m ≡ drawn_materials (record { keys = keys; context = request.context; required = request.required; size = size; max_keys = most }) random
 materials_told refusal tree keys request size most random m lawful told given =
     let key : List ℕ = take 32 random in
     let ivs : List ℕ = drop 32 random in
@@ -48,7 +48,7 @@ materials_told refusal tree keys request size most random m lawful told given =
     λ i. record { context = given.whole i; required = given.required i; key = given.key i; entries = entries i; served = given.served i }
 
 pub told_says_more : (asked : EncryptWords) (context : List KeyValue) (tree left : KeyringMeaning) (keys : List WrapKeyValue) → IsLawful tree → tree.keys ≡ Some keys
-    → SaysMore (encrypt_asked asked context tree left) (asked_by (run_writer asked context keys) (refusal_asked asked context tree) tree.faults left.faults)
+    → SaysMore (encrypt_asked asked context tree left) (encrypting_by (run_writer asked context keys) (refusal_asked asked context tree) tree.faults left.faults)
 told_says_more asked context tree left keys lawful told = record {
   wraps = keys_wrap tree keys lawful told;
   gives = λ random m given. (given.unrefused, materials_told (refusal_asked asked context tree) tree keys (request_asked asked context) asked.frame asked.max_keys random m lawful told given);
@@ -61,7 +61,7 @@ told_says_more asked context tree left keys lawful told = record {
 pub tree_grants : (asked : EncryptWords) (context : List KeyValue) (tree left : KeyringMeaning) → IsContext context → IsLawful tree → refusal_asked asked context tree ≡ None
     → IfSome asked.max_keys (λ most. tree.wraps ≤ most) → Stayed tree.faults left.faults → IsGranted (encrypt_asked asked context tree left)
 tree_grants asked context tree left is_context lawful unrefused allowed stayed = record {
-  none = λ error cause. unrefused_memory tree.faults left.faults error stayed (subst (λ (r : Option Refusal). NoneFor r tree.faults left.faults error) unrefused cause);
+  none = λ error cause. unrefused_memory tree.faults left.faults error stayed (subst (λ (r : Option Refusal). NoneForRequest r tree.faults left.faults error) unrefused cause);
   context = λ random m given. subst IsContext (sym given.whole) is_context;
   count = λ random m given. given.count;
   few = lawful.few;
@@ -105,4 +105,4 @@ keys_allow settings given required tree left keys told stayed = record {
 -- so does the reader of a decryption
 pub reader_allows : (asked : DecryptWords) (given : List KeyValue) (tree left : KeyringMeaning) (keys : List WrapKeyValue) → tree.keys ≡ Some keys → Stayed tree.faults left.faults
     → Allows (record { finds = TreeFinds (required_in asked.pairs) tree left; finds_none = TreeFindsNone (required_in asked.pairs) tree left }) (answering_by (reader_of asked given keys))
-reader_allows asked given tree left keys told stayed = keys_allow (limits_of asked) given (required_in asked.pairs) tree left keys told stayed
+reader_allows asked given tree left keys told stayed = keys_allow (decrypt_settings asked) given (required_in asked.pairs) tree left keys told stayed

@@ -1,3 +1,4 @@
+pub mod Promised
 pub mod ArmouredMessage
 pub mod Asked
 pub mod Given

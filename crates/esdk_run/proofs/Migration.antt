@@ -13,7 +13,8 @@ use Rattle.esdk_run.specs.Migrate.{MigrateFails, value_asked}
 use Rattle.esdk_report.specs.Report.{Reports}
 use Rattle.esdk_run.specs.Objects.{Objects, Unchanged}
 use Rattle.esdk_run.specs.Run.{MigrateRuns}
-use Rattle.esdk_run.specs.Told.{IsDoneOrMemory, MigratesWhatIsHeld}
+use Rattle.esdk_run.specs.Told.{IsDoneOrMemory}
+use Rattle.esdk_run.proofs.Promised.{MigratesWhatIsHeld}
 use Rattle.esdk_run.proofs.Files.{no_read_fails, not_refused}
 use Rattle.esdk_run.proofs.Statuses.{memory_status}
 

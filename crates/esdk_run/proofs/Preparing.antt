@@ -14,7 +14,7 @@ use Rattle.esdk_base.specs.Streams.{ShelfState}
 use Rattle.esdk_fields.specs.declared.refusals.FileRefusal.{FileRefusal}
 use Rattle.esdk_fields.specs.declared.refusals.Outside.TheVariants as outsides
 use Rattle.esdk_fields.specs.declared.refusals.Refusal.{Refusal}
-use Rattle.job_file.specs.Found.{Reads}
+use Rattle.job_file.specs.Found.{MeansThis}
 use Rattle.job_file.specs.JobFile.{JobFile}
 use Rattle.job_file.specs.Jobs.{jobs_of}
 use Rattle.json_values.specs.declared.errors.ReadError.{ReadError}
@@ -94,7 +94,7 @@ tree_refused meaning plugs bytes trees.Memory failure is answers =
 
 -- a job file that is refused
 pub jobs_refused : (name bytes : List ℕ) (error : ReadError) (failure : Failure) → failure ≡ tree_failure error
-    → Reads {A = JobFile} (λ jobs. jobs) (Err error) (jobs_of bytes name) → ReadCause (jobs_in name) bytes failure
+    → MeansThis {A = JobFile} (λ jobs. jobs) (Err error) (jobs_of bytes name) → ReadCause (jobs_in name) bytes failure
 jobs_refused name bytes (trees.File refusal) failure is reads =
     subst (λ (f : Failure). ReadCause (jobs_in name) bytes f) (sym is) reads
 jobs_refused name bytes trees.Memory failure is reads =

@@ -13,8 +13,8 @@ use Rattle.esdk_run.specs.Objects.{Objects, Unchanged, same_streams, without_ent
 use Rattle.esdk_run.specs.Promises.{Promises, Ticks, Words}
 use Rattle.esdk_run.specs.Run.{RunsAs}
 use Rattle.esdk_run.specs.Trees.{IsUntouched, Trees}
-use Rattle.esdk_list.specs.List.{HasNoMemory}
-use Rattle.whole_input.specs.File.{LacksMemory}
+use Rattle.esdk_list.specs.List.{ListLacksMemory}
+use Rattle.whole_input.specs.File.{LacksMemoryForFile}
 use Rattle.whole_input.specs.FileReads.{ReadsRow}
 use Rattle.whole_input.specs.FileReadsLaws.{row_none}
 use Rattle.esdk_run.specs.UnarmouredList.{ListEndsAs}
@@ -96,13 +96,13 @@ fault_runs trees words fault before after unchanged code is untouched said =
 unlisted : (armour uncommitted : Bool) (before after : SourceState) (output put : SinkState) (unwritten : Type 0) → after ≡ before → unwritten
     → ListEndsAs armour uncommitted before after output put unwritten failures.Memory
 unlisted false uncommitted before after output put unwritten is same =
-    (subst (λ (taken : SourceState). HasNoMemory uncommitted before taken) (sym is) (lists_nothing uncommitted before), same)
+    (subst (λ (taken : SourceState). ListLacksMemory uncommitted before taken) (sym is) (lists_nothing uncommitted before), same)
 unlisted true uncommitted before after output put unwritten is same =
     subst (λ (taken : SourceState). ListEndsAs true uncommitted before taken output put unwritten failures.Memory) (sym is)
     (unread_text before _ (λ seen. (lists_nothing uncommitted seen, same)))
 
 -- Memory ran out for a file that wasn't read.
-lacks_unread : (old new : ShelfState) (name : List ℕ) → new ≡ old → LacksMemory old new name
+lacks_unread : (old new : ShelfState) (name : List ℕ) → new ≡ old → LacksMemoryForFile old new name
 lacks_unread old new name same = record {
   bytes = [];
   read = subst (λ (s : ShelfState). ReadsRow name 0 old.calls s.calls []) (sym same) (row_none name 0 old.calls);

@@ -17,11 +17,11 @@ use Rattle.job_file.specs.declared.job.Job.{Job}
 use Rattle.job_file.specs.declared.job.Work.{Work}
 use Rattle.job_file.specs.declared.job.Work.TheVariants.{Encrypt, Decrypt}
 use Rattle.job_file.specs.JobFile.{JobFile, is_written}
-use Rattle.job_file.specs.JobForm.{Head, context_at, decryption_of, encryption_of, head_of, job_of, keys_in, length_at, number_or, required_at, unless_absent, with_required, work_named}
-use Rattle.job_file.specs.Jobs.{clash_among, each_from, file_of, jobs_from, jobs_of, or_refuse, read_names, then_read, unless_clash}
+use Rattle.job_file.specs.JobForm.{JobFileHead, context_at, decryption_of, encryption_of, job_file_head, job_of, keys_in, length_at, member_number_or, required_at, unless_absent, with_required, work_named}
+use Rattle.job_file.specs.Jobs.{clash_among, each_from, job_file_of, jobs_from, jobs_of, or_refuse, read_names, then_made, unless_clash}
 use Rattle.job_file.proofs.Apart.{reads_apart}
 use Rattle.job_file.proofs.Held.{one_more_passes}
-use Rattle.json_values.specs.Values.{◌>>=◌, ◌>>◌, member_count, present, provided, text_at, value_of}
+use Rattle.json_values.specs.Values.{◌>>=◌, ◌>>◌, member_count, present, provided, text_at, json_value}
 use Rattle.esdk_run.specs.Batch.{jobs_in}
 
 -- ---- what is so of whatever is found
@@ -40,7 +40,7 @@ any_found None = tt
 any_found (Some a) = tt
 
 if_read : {A B : Type 0} (Q : A → Type 0) (P : B → Type 0) (found : Result A FileRefusal) (next : A → Result B FileRefusal) → IfOk found Q → ((a : A) → Q a → IfOk (next a) P)
-    → IfOk (then_read found next) P
+    → IfOk (then_made found next) P
 if_read Q P (Ok a) next is each = each a is
 if_read Q P (Err refusal) next is each = tt
 
@@ -101,7 +101,7 @@ encryption_keeps : (d : Data) → IfSome (encryption_of d) RequiresGiven
 unfolding encryption_of
 encryption_keeps d =
     encrypts (member_count d == 3 + present (codes "length") d + present (codes "frame") d + present (codes "context") d + present (codes "required") d)
-    (length_at d) (number_or 1 (2 ^ 32 - 1) 4096 (codes "frame") d) (context_at (codes "context") d) (λ context. required_at context d)
+    (length_at d) (member_number_or 1 (2 ^ 32 - 1) 4096 (codes "frame") d) (context_at (codes "context") d) (λ context. required_at context d)
 
 decrypts : (counted : Bool) (given : Option (List KeyValue)) (required : List KeyValue → Option (List (List ℕ))) → ((pairs : List KeyValue) → IfSome (required pairs) (AreHeld pairs))
     → IfSome (provided counted >> (given >>= (λ pairs. required pairs >>= (λ keys. Some (Decrypt pairs keys))))) RequiresGiven
@@ -151,17 +151,17 @@ pub record KeepsJobs (jobs : List Job) : Type 0 where
   pub given : All (λ job. RequiresGiven job.work) jobs
   pub unread : All (λ job. is_written jobs job.from ≡ false) jobs
 
-unless_clash_keeps : (own_name : List ℕ) (head : Head) (jobs : List Job) (clash : Option (List ℕ)) → clash_among (read_names own_name head.keyring jobs) [] jobs ≡ clash
-    → All (λ job. RequiresGiven job.work) jobs → IfOk (unless_clash clash (file_of head jobs)) (λ file. KeepsJobs file.jobs)
+unless_clash_keeps : (own_name : List ℕ) (head : JobFileHead) (jobs : List Job) (clash : Option (List ℕ)) → clash_among (read_names own_name head.keyring jobs) [] jobs ≡ clash
+    → All (λ job. RequiresGiven job.work) jobs → IfOk (unless_clash clash (job_file_of head jobs)) (λ file. KeepsJobs file.jobs)
 unless_clash_keeps own_name head jobs None none given = record { given = given; unread = reads_apart own_name head.keyring jobs none }
 unless_clash_keeps own_name head jobs (Some name) clash given = tt
 
 file_keeps : (bytes own_name : List ℕ) → IfOk (jobs_of bytes own_name) (λ file. KeepsJobs file.jobs)
 unfolding jobs_of
 file_keeps bytes own_name =
-    if_read (λ _. ⊤) (λ (file : JobFile). KeepsJobs file.jobs) (or_refuse NotJson (value_of bytes)) _ (or_refused (λ _. ⊤) NotJson (value_of bytes) (any_found (value_of bytes)))
-    (λ value any. if_read (λ _. ⊤) (λ (file : JobFile). KeepsJobs file.jobs) (or_refuse (BadShape 0) (head_of value)) _
-    (or_refused (λ _. ⊤) (BadShape 0) (head_of value) (any_found (head_of value)))
+    if_read (λ _. ⊤) (λ (file : JobFile). KeepsJobs file.jobs) (or_refuse NotJson (json_value bytes)) _ (or_refused (λ _. ⊤) NotJson (json_value bytes) (any_found (json_value bytes)))
+    (λ value any. if_read (λ _. ⊤) (λ (file : JobFile). KeepsJobs file.jobs) (or_refuse (BadShape 0) (job_file_head value)) _
+    (or_refused (λ _. ⊤) (BadShape 0) (job_file_head value) (any_found (job_file_head value)))
     (λ head any. if_read (λ jobs. All (λ job. RequiresGiven job.work) jobs) (λ (file : JobFile). KeepsJobs file.jobs) (jobs_from 1 head.jobs) _ (jobs_keep 1 head.jobs)
     (λ jobs given. unless_clash_keeps own_name head jobs (clash_among (read_names own_name head.keyring jobs) [] jobs) refl given)))
 

@@ -11,19 +11,19 @@ use Rattle.keyring_trait.specs.Unlocking.{Unlocking, Unlocks}
 use Rattle.message_format.specs.Judgement.{Judged, content, judged}
 use Rattle.esdk_decrypt.specs.declared.errors.DecryptError.{DecryptError}
 use Rattle.esdk_decrypt.specs.declared.errors.DecryptError.TheVariants as errors
-use Rattle.esdk_decrypt.specs.Decrypt.{Asked, Decrypts, DecryptEnds, HasFault, Releases, ReleasesFront, fault_at_end, fault_of}
-use Rattle.esdk_decrypt.specs.Told.{Reader, asked_by, judged_by}
+use Rattle.esdk_decrypt.specs.Decrypt.{DecryptAsked, Decrypts, DecryptEnds, DecryptFindsFault, Releases, ReleasesFront, fault_at_end, fault_of}
+use Rattle.esdk_decrypt.specs.Told.{Reader, decrypting_by, judged_by}
 use Rattle.esdk_decrypt.proofs.Readers.{answers_unlocking, judged_first, judged_reader, never_fails}
 use Rattle.esdk_run.specs.Failures.{decryption_failure}
 use Rattle.esdk_run.specs.Objects.{Objects, with_input}
-use Rattle.esdk_run.specs.Read.{EndsAsRead, GainsFront, GainsRead, ReadsFault, ReadsNoFault, ReadsWhole, SaysWhatIsReadAs}
+use Rattle.esdk_run.specs.Read.{EndsAsRead, GainsReadFront, GainsRead, DecryptReadsFault, ReadsNoFault, DecryptReadsWhole, SaysWhatIsReadAs}
 use Rattle.esdk_report.specs.Report.{Reports}
 use Rattle.esdk_run.specs.Run.{TellsOrLacksMemory}
 use Rattle.esdk_run.specs.UnarmouredDecrypt.{DecryptsAs, DecryptEndsAs, ReleasesSound}
 use Rattle.esdk_run.proofs.UnarmouredMaps.{all_then, ends_then}
 
 -- how a decryption ended, and what was said of it
-abbrev pub Ending : (armour : Bool) → Asked → Objects → Objects → Type 0 → ℕ → Type 0
+abbrev pub Ending : (armour : Bool) → DecryptAsked → Objects → Objects → Type 0 → ℕ → Type 0
 Ending armour asked before after unwritten code =
     ((context : List KeyValue) × DecryptsAs armour asked before.input after.input before.output after.output context × TellsOrLacksMemory context code before.report after.report)
     ⊎ ((error : DecryptError) × DecryptEndsAs armour asked before.input after.input before.output after.output unwritten error × Reports (decryption_failure error) code before.report after.report)
@@ -31,14 +31,14 @@ Ending armour asked before after unwritten code =
 -- ---- what was released is what is read
 
 gains_read : (reader : Reader) (before after : Objects) (bytes : List ℕ) (answer : Unlocking)
-    → Releases (asked_by reader) before.input after.input before.output after.output bytes answer → GainsRead reader before after bytes
+    → Releases (decrypting_by reader) before.input after.input before.output after.output bytes answer → GainsRead reader before after bytes
 gains_read reader before after bytes answer releases = record {
   came = releases.came;
   gained = subst (λ (j : Judged). Appends before.output.written after.output.written (content j)) (judged_reader reader bytes answer releases.answered) releases.gained;
 }
 
 -- the bytes before the last piece are judged with the same answer
-gains_front : (reader : Reader) (before after : Objects) → ReleasesFront (asked_by reader) before.input after.input before.output after.output → GainsFront reader before after
+gains_front : (reader : Reader) (before after : Objects) → ReleasesFront (decrypting_by reader) before.input after.input before.output after.output → GainsReadFront reader before after
 gains_front reader before after front =
     let last = front.last in
     let all : judged front.bytes reader.settings front.answer ≡ judged_by reader front.bytes = judged_reader reader front.bytes front.answer front.answered in
@@ -59,8 +59,8 @@ gains_front reader before after front =
       };
     }
 
-reads_fault : (reader : Reader) (before after : Objects) (fault : Fault) → HasFault (asked_by reader) before.input after.input before.output after.output fault
-    → ReadsFault reader before after fault
+reads_fault : (reader : Reader) (before after : Objects) (fault : Fault) → DecryptFindsFault (decrypting_by reader) before.input after.input before.output after.output fault
+    → DecryptReadsFault reader before after fault
 reads_fault reader before after fault has =
     let same : judged has.bytes reader.settings has.answer ≡ judged_by reader has.bytes = judged_reader reader has.bytes has.answer has.releases.answered in
     record {
@@ -80,8 +80,8 @@ reads_fault reader before after fault has =
     }
 
 reads_whole : (reader : Reader) (before after : Objects) (code : ℕ) (context : List KeyValue)
-    → Decrypts (asked_by reader) before.input after.input before.output after.output context → TellsOrLacksMemory context code before.report after.report
-    → ReadsWhole reader before after code
+    → Decrypts (decrypting_by reader) before.input after.input before.output after.output context → TellsOrLacksMemory context code before.report after.report
+    → DecryptReadsWhole reader before after code
 reads_whole reader before after code context done told =
     let answer : Unlocking = Unlocks context done.only done.key in
     let same : judged done.bytes reader.settings answer ≡ judged_by reader done.bytes = judged_reader reader done.bytes answer done.releases.answered in
@@ -98,7 +98,7 @@ reads_whole reader before after code context done told =
 -- ---- how it ended
 
 ends_as_read : (reader : Reader) (before after : Objects) (unwritten : Type 0) (error : DecryptError) → (unwritten → after.output ≡ before.output)
-    → DecryptEnds (asked_by reader) before.input after.input before.output after.output unwritten error → EndsAsRead reader before after (decryption_failure error)
+    → DecryptEnds (decrypting_by reader) before.input after.input before.output after.output unwritten error → EndsAsRead reader before after (decryption_failure error)
 ends_as_read reader before after unwritten (errors.Fault fault) same has = reads_fault reader before after fault has
 ends_as_read reader before after unwritten (errors.Outside outsides.SourceFault) same fails = record {
   bytes = fails.bytes;
@@ -125,7 +125,7 @@ ends_as_read reader before after unwritten errors.Memory same lost = record {
 }
 
 -- of bytes that have no fault
-sound_as_read : (reader : Reader) (before after : Objects) (cause : List ℕ → Type 0) → ReleasesSound (asked_by reader) before.input after.input before.output after.output cause
+sound_as_read : (reader : Reader) (before after : Objects) (cause : List ℕ → Type 0) → ReleasesSound (decrypting_by reader) before.input after.input before.output after.output cause
     → ReadsNoFault reader before after cause
 sound_as_read reader before after cause x = record {
   bytes = x.bytes;
@@ -135,7 +135,7 @@ sound_as_read reader before after cause x = record {
 }
 
 pub says_what_is_read : (armour : Bool) (reader : Reader) (before after : Objects) (unwritten : Type 0) (code : ℕ) → (unwritten → after.output ≡ before.output)
-    → Ending armour (asked_by reader) before after unwritten code → SaysWhatIsReadAs armour reader before after code
+    → Ending armour (decrypting_by reader) before after unwritten code → SaysWhatIsReadAs armour reader before after code
 says_what_is_read armour reader before after unwritten code same (inl (context, done, told)) =
     inl (all_then armour before.input after.input _ _ (λ seen read so. reads_whole reader (with_input before seen) (with_input after read) code context so told) done)
 says_what_is_read armour reader before after unwritten code same (inr (error, ends, said)) = inr (record {

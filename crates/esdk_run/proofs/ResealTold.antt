@@ -16,7 +16,7 @@ use Rattle.keyring_trait.specs.Keyring.{KeyringMeaning}
 use Rattle.keyring_trait.specs.Manager.{ManagerMeaning, request_refusal}
 use Rattle.keyring_trait.specs.Requests.{EncRequestValue}
 use Rattle.keyring_trait.specs.Wrapping.{WrapKeyValue}
-use Rattle.esdk_encrypt.specs.Told.{NoneFor}
+use Rattle.esdk_encrypt.specs.Told.{NoneForRequest}
 use Rattle.esdk_decrypt.specs.Laws.{IsWrittenFor, Written, written_message}
 use Rattle.esdk_decrypt.specs.Told.{Reader, answering_by}
 use Rattle.reseal_core.specs.declared.errors.InputError.{InputError}
@@ -36,11 +36,12 @@ use Rattle.esdk_run.specs.FileReading.{FileFails}
 use Rattle.esdk_run.specs.Giving.{refusal_over}
 use Rattle.esdk_run.specs.Objects.{Objects, Unchanged, same_streams}
 use Rattle.esdk_run.specs.Pairs.{context_in, required_in}
-use Rattle.esdk_run.specs.Reseal.{HasFirst, HasNoSecond, HasSecond, ResealFails, ResealingFails, TreeSealsNone, limits_of, reseal_asked, untouched}
-use Rattle.esdk_run.specs.ResealTold.{CanBeResealed, NamesResealFault, NothingElseFails, OfItsKeys, ReadsBoth, ResealsWholeMessages, RotatesWhatIsWritten, SaysWhatItReseals, ShowsResealed, ShowsRotated, reseal_reader, reseal_writer, without_plugs}
+use Rattle.esdk_run.specs.Reseal.{HasFirst, HasNoSecond, HasSecond, ResealFails, ResealingFails, TreeSealsNone, reseal_settings, reseal_asked, untouched}
+use Rattle.esdk_run.specs.ResealTold.{CanBeResealed, NamesResealFault, ShelfAndEntropyDontFail, OfItsKeys, ReadsBoth, ShowsResealed, ShowsRotated, reseal_reader, reseal_writer, without_plugs}
 use Rattle.esdk_run.specs.Run.{ResealRuns, TellsOrLacksMemory}
-use Rattle.esdk_run.specs.Told.{ComesBackBefore, GivesTree, HoldsTree, IfNoneFailedBefore, IsDoneOrMemory, IsLeft, NothingFails}
+use Rattle.esdk_run.specs.Told.{ComesBackBefore, GivesTree, HoldsTree, TreeWasReadFirstAnd, IsDoneOrMemory, IsLeft, StreamsDontFail}
 use Rattle.esdk_run.specs.Trees.{IsLawful, TreeGoes, Trees}
+use Rattle.esdk_run.proofs.Promised.{SaysWhatItReseals, ResealsWholeMessages, RotatesWhatIsWritten}
 use Rattle.esdk_run.proofs.Decryption.{context_shown, one_shows_none, zero_shows}
 use Rattle.esdk_run.proofs.Files.{held_is_read, held_is_taken, tree_is_held}
 use Rattle.esdk_run.proofs.Given.{one_context, pairs_not_refused}
@@ -177,7 +178,7 @@ keys_giving others second later size =
     record { wraps = r.wraps; gives = r.gives; gives_none = r.gives_none }
 
 none_told : (second later : KeyringMeaning) (request : EncRequestValue) (error : ManagerError) → TreeSealsNone second request error
-    → NoneFor (request_refusal (default_now second).meaning request.context) second.faults later.faults error
+    → NoneForRequest (request_refusal (default_now second).meaning request.context) second.faults later.faults error
 none_told second later request (managers.Fault fault) cause = absurd cause
 none_told second later request (managers.Refusal refusal) cause = seal_refusal request.context second ∙ cause
 none_told second later request managers.KeyringFault cause = absurd cause
@@ -202,8 +203,8 @@ module _ (asked : ResealWords) (before after : Objects) (same : Type 0) (code : 
   told_ended (inl (context, (done, shown))) = inl (
     context,
     (
-      input_more (record { finds = TreeFinds (required_in asked.pairs) tree left; finds_none = TreeFindsNone (required_in asked.pairs) tree left }) (answering_by (reseal_reader asked given keys)) (limits_of asked) given
-          (tree_giving second) (keys_giving others second later asked.frame) asked.frame (keys_allow (limits_of asked) given (required_in asked.pairs) tree left keys told stayed)
+      input_more (record { finds = TreeFinds (required_in asked.pairs) tree left; finds_none = TreeFindsNone (required_in asked.pairs) tree left }) (answering_by (reseal_reader asked given keys)) (reseal_settings asked) given
+          (tree_giving second) (keys_giving others second later asked.frame) asked.frame (keys_allow (reseal_settings asked) given (required_in asked.pairs) tree left keys told stayed)
           (keys_give others second later asked.frame lawful second_told) before.input after.input before.output after.output before.entropy after.entropy context done,
       shown,
     ),
@@ -211,8 +212,8 @@ module _ (asked : ResealWords) (before after : Objects) (same : Type 0) (code : 
   told_ended (inr (error, (ends, said))) = inr (
     error,
     (
-      stops_more (record { finds = TreeFinds (required_in asked.pairs) tree left; finds_none = TreeFindsNone (required_in asked.pairs) tree left }) (answering_by (reseal_reader asked given keys)) (limits_of asked) given
-          (tree_giving second) (keys_giving others second later asked.frame) asked.frame (keys_allow (limits_of asked) given (required_in asked.pairs) tree left keys told stayed)
+      stops_more (record { finds = TreeFinds (required_in asked.pairs) tree left; finds_none = TreeFindsNone (required_in asked.pairs) tree left }) (answering_by (reseal_reader asked given keys)) (reseal_settings asked) given
+          (tree_giving second) (keys_giving others second later asked.frame) asked.frame (keys_allow (reseal_settings asked) given (required_in asked.pairs) tree left keys told stayed)
           (keys_give others second later asked.frame lawful second_told) before.input after.input before.output after.output before.entropy after.entropy same ⊤ error ends,
       said,
     ),
@@ -239,7 +240,7 @@ record EndedEarly (trees : Trees) (asked : ResealWords) (before after : Objects)
 -- what is so of each such end is so of the run
 module _ (So : Type 0) (trees : Trees) (asked : ResealWords) (before after : Objects) (unchanged : Unchanged) (code : ℕ) (given : List KeyValue) (keys : List WrapKeyValue)
     (both : ReadsBoth trees asked before given keys) (so : EndedTold asked before after (same_streams unchanged) code given keys both.second → So) (early : EndedEarly trees asked before after code → So) where
-  over_had : Had trees asked before after unchanged code → IfNoneFailedBefore trees asked.keyring before.shelf So
+  over_had : Had trees asked before after unchanged code → TreeWasReadFirstAnd trees asked.keyring before.shelf So
   over_had (inl b) =
       let has = b.first.has in
       let read : b.second ≡ both.second =
@@ -266,7 +267,7 @@ module _ (So : Type 0) (trees : Trees) (asked : ResealWords) (before after : Obj
             (λ stayed. early (record { between = f.fails.between; files = f.fails.first.files; faults = has.file.file.faults; failure = f.failure; cause = f.fails.cause; said = f.said })),
       )
 
-  over_both : ResealRuns trees asked before after unchanged code → IfNoneFailedBefore trees asked.keyring before.shelf So
+  over_both : ResealRuns trees asked before after unchanged code → TreeWasReadFirstAnd trees asked.keyring before.shelf So
   over_both runs = over_had (had trees asked before after unchanged code both.left both.kept runs)
 
 -- ---- what is written
@@ -346,7 +347,7 @@ module _ (asked : ResealWords) (before after : Objects) (same : Type 0) (code : 
       })
 
   -- only want of memory keeps a whole message from being resealed
-  whole_done : (bytes : List ℕ) → CanBeResealed reader second asked.frame before.input bytes → NothingFails before after → NothingElseFails before after
+  whole_done : (bytes : List ℕ) → CanBeResealed reader second asked.frame before.input bytes → StreamsDontFail before after → ShelfAndEntropyDontFail before after
       → Ending (told_run asked given keys others second e.later) before after same code → IsDoneOrMemory code
   whole_done bytes can nothing beside (inl (context, (done, shown))) = context_shown context code before after nothing shown
   whole_done bytes can nothing beside (inr (error, (ends, said))) =
@@ -367,7 +368,7 @@ module _ (asked : ResealWords) (before after : Objects) (same : Type 0) (code : 
   written_rotated writers m for wide narrow told zero (inr (error, (ends, said))) = absurd (not_done (resealing_failure error) code before.report after.report said zero)
 
 -- a held file gives a tree, unless the shelf fails or memory runs out
-early_memory : (trees : Trees) (asked : ResealWords) (before after : Objects) (code : ℕ) (second : KeyringMeaning) → HoldsTree (without_plugs trees) before.shelf.files asked.to_keyring second → NothingElseFails before after
+early_memory : (trees : Trees) (asked : ResealWords) (before after : Objects) (code : ℕ) (second : KeyringMeaning) → HoldsTree (without_plugs trees) before.shelf.files asked.to_keyring second → ShelfAndEntropyDontFail before after
     → EndedEarly trees asked before after code → IsDoneOrMemory code
 early_memory trees asked before after code second holds beside e = by e.failure e.cause e.said
   where

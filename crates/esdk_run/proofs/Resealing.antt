@@ -28,7 +28,7 @@ use Rattle.esdk_run.specs.FileReading.{FileFails}
 use Rattle.esdk_run.specs.Giving.{TreeGives, refusal_over}
 use Rattle.esdk_run.specs.Objects.{Objects, Unchanged, same_streams}
 use Rattle.esdk_run.specs.Prepared.{IsNotPrepared}
-use Rattle.esdk_run.specs.Reseal.{HasFirst, HasSecond, ResealFails, ResealingFails, TreeSealsNone, limits_of, reseal_asked, untouched}
+use Rattle.esdk_run.specs.Reseal.{HasFirst, HasSecond, ResealFails, ResealingFails, TreeSealsNone, reseal_settings, reseal_asked, untouched}
 use Rattle.esdk_run.specs.Run.{ResealRuns, TellsOrLacksMemory}
 use Rattle.esdk_run.specs.Trees.{IsUntouched, TreeGoes, Trees}
 use Rattle.esdk_run.proofs.Chain.{gives_drawn, same_keys}
@@ -105,7 +105,7 @@ module _ (asked : ResealWords) (given : List KeyValue) (tree left second later :
     (allows : Allows (answering_of opened opening 0) (reseal_asked asked given tree left second).opening.manager)
     (input taken : SourceState) (output put : SinkState) (entropy spent : EntropyState) where
   abbrev from : Resealing
-  from = resealing_from opened opening (default_now second) (default_now later) 0 (limits_of asked) given asked.frame
+  from = resealing_from opened opening (default_now second) (default_now later) 0 (reseal_settings asked) given asked.frame
 
   abbrev to : Resealing
   to = reseal_asked asked given tree left second
@@ -113,7 +113,7 @@ module _ (asked : ResealWords) (given : List KeyValue) (tree left second later :
   pub tree_reseals : (r : Result (List KeyValue) InputError) → IfOk r (ResealsInput from input taken output put entropy spent) → IfOk r (ResealsInput to input taken output put entropy spent)
   tree_reseals (Err error) done = tt
   tree_reseals (Ok context) done =
-      input_more (answering_of opened opening 0) to.opening.manager (limits_of asked) given (giving (default_now second) (default_now later)) (tree_giving second) asked.frame
+      input_more (answering_of opened opening 0) to.opening.manager (reseal_settings asked) given (giving (default_now second) (default_now later)) (tree_giving second) asked.frame
       allows (tree_gives second later stayed) input taken output put entropy spent context done
 
   pub tree_ends : (same unasked still : Type 0) (r : Result (List KeyValue) InputError) → (unasked → still) → IfErr r (ResealEnds from input taken output put entropy spent same unasked)
@@ -121,7 +121,7 @@ module _ (asked : ResealWords) (given : List KeyValue) (tree left second later :
   tree_ends same unasked still (Ok context) so ends = tt
   tree_ends same unasked still (Err error) so ends =
       ends_unasked to input taken output put entropy spent same unasked still error so
-      (stops_more (answering_of opened opening 0) to.opening.manager (limits_of asked) given (giving (default_now second) (default_now later)) (tree_giving second) asked.frame
+      (stops_more (answering_of opened opening 0) to.opening.manager (reseal_settings asked) given (giving (default_now second) (default_now later)) (tree_giving second) asked.frame
       allows (tree_gives second later stayed) input taken output put entropy spent same unasked error ends)
 
 -- ---- the command

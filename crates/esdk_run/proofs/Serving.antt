@@ -17,7 +17,7 @@ use Rattle.keyring_trait.specs.Requests.{DecRequestValue, EncRequestValue}
 use Rattle.keyring_trait.specs.Saying.{Admits, Saying, said_between}
 use Rattle.keyring_trait.specs.Wrapping.{WrapKeyValue, ivs_of, made}
 use Rattle.cmm_default.specs.DefaultCmm.{default_now, default_tells}
-use Rattle.cmm_caching.specs.Asked.{limits_of}
+use Rattle.cmm_caching.specs.Asked.{store_limits}
 use Rattle.cmm_caching.specs.CachingCmm.{caching_now}
 use Rattle.cmm_caching.specs.Journal.{KeepsWithin}
 use Rattle.cmm_caching.specs.Limits.{LimitsValue}
@@ -29,7 +29,7 @@ use Rattle.batch_report.specs.declared.job_lines.JobLine.{JobLine}
 use Rattle.esdk_batch.specs.Batch.{RunsBatch}
 use Rattle.esdk_batch.specs.Watching.{shown_files}
 use Rattle.esdk_batch.specs.Failures.{CountsFailures, tally_of}
-use Rattle.esdk_encrypt.specs.Told.{NoneFor}
+use Rattle.esdk_encrypt.specs.Told.{NoneForRequest}
 use Rattle.esdk_run.specs.Batch.{RunsWithin}
 use Rattle.esdk_run.specs.Giving.{refusal_over}
 use Rattle.esdk_run.specs.Serving.{IsSteadyIfCached, TreeOutlasts, TreeServes, TreeServesHeader, TreeServesNone, managing_over}
@@ -44,12 +44,12 @@ cached store tree = caching_now store (default_now tree)
 
 -- What is so of a manager before its first call.
 pub record Begins (cache : Option LimitsValue) (store : Option Store) (tree : KeyringMeaning) : Type 0 where
-  pub limits : limits_of store ≡ cache
+  pub limits : store_limits store ≡ cache
   pub tells : (keys : List WrapKeyValue) → default_tells tree keys → IsSteadyIfCached cache tree → (cached store tree).tells keys
   pub exact : (cached store tree).exact
 
 -- without limits there is no cache
-off_is_plain : (store : Option Store) → limits_of store ≡ None → (is_none store && true) ≡ true
+off_is_plain : (store : Option Store) → store_limits store ≡ None → (is_none store && true) ≡ true
 off_is_plain None off = refl
 off_is_plain (Some s) off = absurd cc
 
@@ -81,7 +81,7 @@ serves cache store tree wish random m begins gives = record {
 }
 
 serves_none : (cache : Option LimitsValue) (store later : Option Store) (tree left : KeyringMeaning) (wish : EncRequestValue) (error : ManagerError) → Begins cache store tree
-    → GivesNone (cached store tree) (cached later left) wish error → NoneFor (refusal_over wish.context tree) tree.faults left.faults error
+    → GivesNone (cached store tree) (cached later left) wish error → NoneForRequest (refusal_over wish.context tree) tree.faults left.faults error
 serves_none cache store later tree left wish (managers.Fault fault) begins cause = cause
 serves_none cache store later tree left wish (managers.Refusal refusal) begins cause = sym (cached_refusal store wish.context tree) ∙ cause.1 begins.exact
 serves_none cache store later tree left wish managers.KeyringFault begins cause = (sym (cached_refusal store wish.context tree) ∙ cause.1 begins.exact, cause.0)
@@ -188,7 +188,7 @@ said_over meaning v w = said_between (cached v.1 (meaning v.0)) (cached w.1 (mea
 
 pub runs_over : {N E : Type 0} (meaning : N → KeyringMeaning) (inner tree left : N) (made first last : N × Option Store) (file : JobFile) (old new : ShelfState) (entropy spent : EntropyState)
     (before after shown : List JournalLine) (r : Result (List JobLine) E) → first ≡ made → made.0 ≡ inner → inner ≡ tree → left ≡ last.0
-    → Begins file.cache made.1 (meaning inner) → before ≡ [] → shown ≡ after → KeepsWithin (limits_of first.1) shown
+    → Begins file.cache made.1 (meaning inner) → before ≡ [] → shown ≡ after → KeepsWithin (store_limits first.1) shown
     → IfOk r (RunsBatch (said_over meaning first last) file 0 old.files new.files entropy spent before after)
     → ((held : Files) → IfOk r (RunsBatch (said_over meaning first last) file 0 (Some held) (shown_files held old new) entropy spent before after))
     → IfOk r (RunsWithin (managing_over file.cache (meaning tree) (meaning left)) file old new entropy spent)
@@ -206,7 +206,7 @@ runs_over {N} meaning inner tree left made first last file old new entropy spent
     let from_none : RunsBatch (managing_over file.cache (meaning tree) (meaning last.0)) file 0 was now entropy spent [] after lines =
     subst (λ (b : List JournalLine). RunsBatch (managing_over file.cache (meaning tree) (meaning last.0)) file 0 was now entropy spent b after lines) none more in
     subst (λ (l : N). RunsBatch (managing_over file.cache (meaning tree) (meaning l)) file 0 was now entropy spent [] after lines) (sym is_left) from_none) in
-    let limits : limits_of first.1 ≡ file.cache = ap (λ (v : N × Option Store). limits_of v.1) is ∙ begins.limits in
+    let limits : store_limits first.1 ≡ file.cache = ap (λ (v : N × Option Store). store_limits v.1) is ∙ begins.limits in
     record {
       journal = after;
       runs = over old.files new.files runs;

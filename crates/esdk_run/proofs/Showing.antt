@@ -17,9 +17,9 @@ use Rattle.cmm_caching.specs.Limits.{LimitsValue}
 use Rattle.cmm_caching.specs.Store.{use_bytes}
 use Rattle.job_file.specs.declared.job.Job.{Job}
 use Rattle.batch_report.specs.declared.job_lines.JobLine.{JobLine}
-use Rattle.esdk_batch.specs.Batch.{AllCome, Answered, SaysWhatWasServed, in_line, in_report, length_of}
+use Rattle.esdk_batch.specs.Batch.{AllCome, ManagerAnswer, SaysWhatWasServed, in_line, in_report, length_of}
 use Rattle.keyring_trait.specs.Saying.{Saying}
-use Rattle.esdk_run.specs.Served.{AreServedWithin, IsServedDirectly, bytes_shown, seals_shown, seals_under, shows_number}
+use Rattle.esdk_run.specs.Served.{AreServedWithin, bytes_shown, seals_shown, seals_under, shows_number}
 
 -- each job has a line
 pub each_has_a_line : (manager : Saying) (before after : Option Files) (jobs : List Job) (drawn : List (List ℕ)) (lines : List JobLine)
@@ -31,39 +31,39 @@ each_has_a_line manager before after jobs drawn lines all = absurd all
 -- ---- an answer that a line shows
 
 -- what a line shows of an answer, of a job of this kind and with this declared length
-abbrev answer_of : Kind → Option ℕ → Option Served → Option Answered
+abbrev answer_of : Kind → Option ℕ → Option Served → Option ManagerAnswer
 answer_of kind size served = option_map (λ s. record { kind = kind; served = s; length = size }) served
 
-abbrev IsDirect : Answered → Type 0
+abbrev IsDirect : ManagerAnswer → Type 0
 IsDirect answer = answer.served ≡ Direct
 
-direct_first : (kind : Kind) (size : Option ℕ) (served : Option Served) (rest : List Answered) → All IsDirect (cons_option (answer_of kind size served) rest)
+direct_first : (kind : Kind) (size : Option ℕ) (served : Option Served) (rest : List ManagerAnswer) → All IsDirect (cons_option (answer_of kind size served) rest)
     → IfSome served (λ s. s ≡ Direct) × All IsDirect rest
 direct_first kind size None rest all = (tt, all)
 direct_first kind size (Some s) rest all = (All-head IsDirect _ rest all, All-tail IsDirect (record { kind = kind; served = s; length = size }) rest all)
 
 direct_lines : (manager : Saying) (before after : Option Files) (jobs : List Job) (drawn : List (List ℕ)) (lines : List JobLine)
-    → AllCome manager before after jobs drawn lines → All IsDirect (filter_map in_report (zip jobs lines)) → All IsServedDirectly lines
-direct_lines manager before after [] [] [] all direct = All-nil IsServedDirectly
+    → AllCome manager before after jobs drawn lines → All IsDirect (filter_map in_report (zip jobs lines)) → All (λ line. IfSome line.served (λ served. served ≡ Direct)) lines
+direct_lines manager before after [] [] [] all direct = All-nil (λ line. IfSome line.served (λ served. served ≡ Direct))
 direct_lines manager before after (job ∷ jobs) (drawn ∷ draws) (line ∷ lines) all direct =
     let parts : IfSome line.served (λ s. s ≡ Direct) × All IsDirect (filter_map in_report (zip jobs lines)) =
     direct_first line.kind (length_of job.work) line.served (filter_map in_report (zip jobs lines)) direct in
-    All-cons IsServedDirectly line lines parts.0 (direct_lines manager before after jobs draws lines all.1 parts.1)
+    All-cons (λ line. IfSome line.served (λ served. served ≡ Direct)) line lines parts.0 (direct_lines manager before after jobs draws lines all.1 parts.1)
 direct_lines manager before after jobs drawn lines all direct = absurd all
 
 -- ---- sums
 
 -- what an answer adds to a sum, where there is one
-abbrev worth : (Answered → ℕ) → Kind → Option ℕ → Option Served → ℕ
+abbrev worth : (ManagerAnswer → ℕ) → Kind → Option ℕ → Option Served → ℕ
 worth f kind size None = 0
 worth f kind size (Some s) = f (record { kind = kind; served = s; length = size })
 
-sum_first : (f : Answered → ℕ) (kind : Kind) (size : Option ℕ) (served : Option Served) (rest : List Answered)
+sum_first : (f : ManagerAnswer → ℕ) (kind : Kind) (size : Option ℕ) (served : Option Served) (rest : List ManagerAnswer)
     → sum_by f (cons_option (answer_of kind size served) rest) ≡ worth f kind size served + sum_by f rest
 sum_first f kind size None rest = omega arith
 sum_first f kind size (Some s) rest = sum_by-cons f (record { kind = kind; served = s; length = size }) rest
 
-sum_shown : (f : Answered → ℕ) (g : Job × JobLine → ℕ) → ((pair : Job × JobLine) → worth f pair.1.kind (length_of pair.0.work) pair.1.served ≡ g pair)
+sum_shown : (f : ManagerAnswer → ℕ) (g : Job × JobLine → ℕ) → ((pair : Job × JobLine) → worth f pair.1.kind (length_of pair.0.work) pair.1.served ≡ g pair)
     → (pairs : List (Job × JobLine)) → sum_by f (filter_map in_report pairs) ≡ sum_by g pairs
 sum_shown f g same [] = refl
 sum_shown f g same (pair ∷ pairs) =
@@ -72,13 +72,13 @@ sum_shown f g same (pair ∷ pairs) =
     sum_first f pair.1.kind (length_of pair.0.work) pair.1.served (filter_map in_report pairs) in
     first ∙ (λ i. same pair i + sum_shown f g same pairs i) ∙ sym (sum_by-cons g pair pairs)
 
-sum_lines : (f : Answered → ℕ) (lines : List JournalLine) → sum_by f (map in_line lines) ≡ sum_by (λ line. f (in_line line)) lines
+sum_lines : (f : ManagerAnswer → ℕ) (lines : List JournalLine) → sum_by f (map in_line lines) ≡ sum_by (λ line. f (in_line line)) lines
 sum_lines f [] = refl
 sum_lines f (line ∷ lines) =
     sum_by-cons f (in_line line) (map in_line lines) ∙ ap (λ (n : ℕ). f (in_line line) + n) (sum_lines f lines) ∙ sym (sum_by-cons (λ l. f (in_line l)) line lines)
 
 -- the sum over the journal is that over the report
-sum_served : (f : Answered → ℕ) (g : Job × JobLine → ℕ) (jobs : List Job) (lines : List JobLine) (gained : List JournalLine)
+sum_served : (f : ManagerAnswer → ℕ) (g : Job × JobLine → ℕ) (jobs : List Job) (lines : List JobLine) (gained : List JournalLine)
     → ((pair : Job × JobLine) → worth f pair.1.kind (length_of pair.0.work) pair.1.served ≡ g pair) → SaysWhatWasServed jobs lines gained
     → sum_by g (zip jobs lines) ≡ sum_by (λ line. f (in_line line)) gained
 sum_served f g jobs lines gained same served =
@@ -86,10 +86,10 @@ sum_served f g jobs lines gained same served =
 
 -- ---- encryptions with one number
 
-abbrev counts : ℕ → Answered → ℕ
+abbrev counts : ℕ → ManagerAnswer → ℕ
 counts n answer = if is_sealing answer.kind && names n answer.served then 1 else 0
 
-abbrev counts_bytes : ℕ → Answered → ℕ
+abbrev counts_bytes : ℕ → ManagerAnswer → ℕ
 counts_bytes n answer = if is_sealing answer.kind && names n answer.served then use_bytes answer.length else 0
 
 count_worth : (n : ℕ) (kind : Kind) (size : Option ℕ) (served : Option Served)

@@ -6,7 +6,7 @@ use Rattle.esdk_fields.specs.declared.faults.Fault.{Fault}
 use Rattle.esdk_report.specs.Lines.{fault_line, printed_line}
 use Rattle.esdk_report.specs.declared.failure.Failure.{Failure}
 use Rattle.esdk_report.specs.declared.failure.Failure.TheVariants as failures
-use Rattle.esdk_report.specs.Report.{Gains, Reports}
+use Rattle.esdk_report.specs.Report.{ReportGains, Reports}
 use Rattle.esdk_run.specs.Run.{is_status}
 
 -- that of jobs or of messages
@@ -52,7 +52,7 @@ not_seven failures.Memory code old new said seven = omega (arith, said.status, s
 pub record IsFault (failure : Failure) (old new : SinkState) : Type 0 where
   pub fault : Fault
   pub is : failure ≡ failures.Fault fault
-  pub line : Gains (printed_line (fault_line fault)) old new
+  pub line : ReportGains (printed_line (fault_line fault)) old new
 
 -- status 1 is a fault's
 pub fault_status : (failure : Failure) (code : ℕ) (old new : SinkState) → Reports failure code old new → code ≡ 1 → IsFault failure old new

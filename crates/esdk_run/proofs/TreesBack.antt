@@ -16,7 +16,7 @@ use Rattle.esdk_run.specs.Objects.{Objects, Unchanged}
 use Rattle.esdk_run.specs.Pairs.{context_in}
 use Rattle.esdk_report.specs.Report.{Reports}
 use Rattle.esdk_run.specs.Run.{DecryptRuns}
-use Rattle.esdk_run.specs.Told.{ComesBack, GivesTree, HoldsTree, IfNoneFailed, IsLeft}
+use Rattle.esdk_run.specs.Told.{ComesBack, GivesTree, HoldsTree, TreeWasReadAnd, IsLeft}
 use Rattle.esdk_run.specs.Trees.{HasTree, TreeGoes, Trees}
 use Rattle.esdk_run.proofs.Files.{held_is_read, held_is_taken, tree_is_held}
 use Rattle.esdk_run.proofs.Given.{pairs_not_refused}
@@ -49,7 +49,7 @@ gives_held trees words name old new context tree left held holds has =
 
 -- where the run had a tree, this is so where none of its keyrings failed
 pub if_none_failed : (trees : Trees) (words : List PairWord) (name : List ℕ) (old new : ShelfState) (context : List KeyValue) (tree left : KeyringMeaning) (So : Type 0)
-    → HasTree trees words name old new context tree left → (Stayed tree.faults left.faults → So) → IfNoneFailed trees name old new So
+    → HasTree trees words name old new context tree left → (Stayed tree.faults left.faults → So) → TreeWasReadAnd trees name old new So
 if_none_failed trees words name old new context tree left So has so = (tree, has.file, record { left = left; kept = has.kept; goes = has.goes; so = so })
 
 -- ---- of `decrypt`

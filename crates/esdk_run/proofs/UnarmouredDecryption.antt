@@ -15,7 +15,7 @@ use Rattle.keyring_trait.specs.Unlocking.{Unlocks}
 use Rattle.message_format.specs.Judgement.{judged}
 use Rattle.esdk_decrypt.specs.declared.errors.DecryptError.{DecryptError}
 use Rattle.esdk_decrypt.specs.declared.errors.DecryptError.TheVariants as errors
-use Rattle.esdk_decrypt.specs.Decrypt.{Asked, Decrypts, DecryptEnds, HasFault, asked_from, fault_of}
+use Rattle.esdk_decrypt.specs.Decrypt.{DecryptAsked, Decrypts, DecryptEnds, DecryptFindsFault, asked_from, fault_of}
 use Rattle.esdk_run.specs.Failures.{decryption_failure}
 use Rattle.esdk_run.specs.UnarmouredDecrypt.{DecryptsAs, DecryptEndsAs, ReleasesSound, is_open}
 use Rattle.esdk_run.proofs.FormatFaults.{NamesFormat, cut_is_sound, never_armour, never_armour_before, never_cut, verdict_format}
@@ -23,15 +23,15 @@ use Rattle.esdk_run.proofs.Unarmouring.{IsOfBytes, ReadsOver, judged_sound, text
 
 -- ---- bytes without a fault
 
-abbrev pub AllSound : Asked → SourceState → SourceState → SinkState → SinkState → Type 0
+abbrev pub AllSound : DecryptAsked → SourceState → SourceState → SinkState → SinkState → Type 0
 AllSound asked seen read output put = ReleasesSound asked seen read output put (EndSeen seen read)
 
-front_sound : {asked : Asked} {seen read : SourceState} {output put : SinkState} → AllSound asked seen read output put
+front_sound : {asked : DecryptAsked} {seen read : SourceState} {output put : SinkState} → AllSound asked seen read output put
     → ReleasesSound asked seen read output put (λ bytes. ⊤)
 front_sound all = record { bytes = all.bytes; answer = all.answer; releases = all.releases; sound = all.sound; because = tt }
 
 -- a whole message
-whole_sound : {asked : Asked} {seen read : SourceState} {output put : SinkState} {context : List KeyValue} → Decrypts asked seen read output put context
+whole_sound : {asked : DecryptAsked} {seen read : SourceState} {output put : SinkState} {context : List KeyValue} → Decrypts asked seen read output put context
     → AllSound asked seen read output put
 whole_sound {context = context} done = record {
   bytes = done.bytes;
@@ -42,13 +42,13 @@ whole_sound {context = context} done = record {
 }
 
 released_format : (old new : ManagerNow) (now : ℕ) (settings : Settings) (given : List KeyValue) (seen read : SourceState) (output put : SinkState) (fault : Fault)
-    (has : HasFault (asked_from old new now settings given) seen read output put fault) → NamesFormat (judged has.bytes settings has.answer).verdict
+    (has : DecryptFindsFault (asked_from old new now settings given) seen read output put fault) → NamesFormat (judged has.bytes settings has.answer).verdict
 released_format old new now settings given seen read output put fault has =
     verdict_format old new now settings given has.bytes has.answer has.releases.answered
 
 -- one that is cut short
 cut_sound : (old new : ManagerNow) (now : ℕ) (settings : Settings) (given : List KeyValue) (seen read : SourceState) (output put : SinkState)
-    → HasFault (asked_from old new now settings given) seen read output put Truncated → AllSound (asked_from old new now settings given) seen read output put
+    → DecryptFindsFault (asked_from old new now settings given) seen read output put Truncated → AllSound (asked_from old new now settings given) seen read output put
 cut_sound old new now settings given seen read output put has =
     let names = released_format old new now settings given seen read output put Truncated has in
     elim has.cause [
@@ -64,7 +64,7 @@ cut_sound old new now settings given seen read output put has =
 
 -- M27 isn't a fault of theirs
 never_m27 : (old new : ManagerNow) (now : ℕ) (settings : Settings) (given : List KeyValue) (seen read : SourceState) (output put : SinkState) (number : ℕ)
-    → HasFault (asked_from old new now settings given) seen read output put (BadArmour number) → ⊥
+    → DecryptFindsFault (asked_from old new now settings given) seen read output put (BadArmour number) → ⊥
 never_m27 old new now settings given seen read output put number has =
     let names = released_format old new now settings given seen read output put (BadArmour number) has in
     elim has.cause [
@@ -102,7 +102,7 @@ ends_known old new now settings given seen read output put unwritten errors.Memo
 -- ---- the text that gives them
 
 module _ (old new : ManagerNow) (now : ℕ) (settings : Settings) (given : List KeyValue) (input taken seen read : SourceState) (output put : SinkState) (unwritten : Type 0) where
-  abbrev asked : Asked
+  abbrev asked : DecryptAsked
   asked = asked_from old new now settings given
 
   pub decrypted_text : (result : Result (List KeyValue) DecryptError) → ReadsOver input taken seen read (is_open result) (Ok tt) → IfOk result (Decrypts asked seen read output put)

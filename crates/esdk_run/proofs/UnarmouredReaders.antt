@@ -9,7 +9,7 @@ use Rattle.context_codec.specs.Context.{KeyValue}
 use Rattle.header_codec.specs.declared.settings.Settings.{Settings}
 use Rattle.esdk_decrypt.specs.declared.errors.DecryptError.{DecryptError}
 use Rattle.esdk_decrypt.specs.declared.errors.DecryptError.TheVariants as errors
-use Rattle.esdk_decrypt.specs.Decrypt.{Answering, Asked}
+use Rattle.esdk_decrypt.specs.Decrypt.{Answering, DecryptAsked}
 use Rattle.esdk_decrypt.proofs.Told.{Allows, answered_allowed, asked_of, decrypts_allowed, ends_allowed}
 use Rattle.esdk_run.specs.Failures.{decryption_failure}
 use Rattle.esdk_run.specs.UnarmouredDecrypt.{DecryptsAs, DecryptEndsAs, ReleasesSound}
@@ -61,7 +61,7 @@ stops_as_more armour from to settings given input taken output put unwritten (Er
 
 -- ---- a decryption doesn't end by the shelf
 
-pub never_shelf : (armour : Bool) (asked : Asked) (input taken : SourceState) (output put : SinkState) (unwritten : Type 0)
+pub never_shelf : (armour : Bool) (asked : DecryptAsked) (input taken : SourceState) (output put : SinkState) (unwritten : Type 0)
     → DecryptEndsAs armour asked input taken output put unwritten (errors.Outside ShelfFault) → ⊥
 never_shelf true asked input taken output put unwritten ends = ends.so
 never_shelf false asked input taken output put unwritten ends = ends

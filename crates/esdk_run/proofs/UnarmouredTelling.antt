@@ -21,17 +21,17 @@ use Rattle.message_format.specs.Judgement.{Judged, content}
 use Rattle.whole_input.specs.Taken.{EndSeen}
 use Rattle.esdk_decrypt.specs.declared.errors.DecryptError.{DecryptError}
 use Rattle.esdk_decrypt.specs.declared.errors.DecryptError.TheVariants as errors
-use Rattle.esdk_decrypt.specs.Decrypt.{DecryptEnds, HasFault, fault_at_end, fault_of}
+use Rattle.esdk_decrypt.specs.Decrypt.{DecryptEnds, DecryptFindsFault, fault_at_end, fault_of}
 use Rattle.esdk_decrypt.specs.Laws.{IsWholeInput, IsWrittenFor, Written, written_message}
-use Rattle.esdk_decrypt.specs.Told.{Reader, asked_by, judged_by}
+use Rattle.esdk_decrypt.specs.Told.{Reader, decrypting_by, judged_by}
 use Rattle.esdk_decrypt.proofs.Readers.{judged_reader}
 use Rattle.esdk_decrypt.proofs.RoundTrip.{written_whole}
 use Rattle.esdk_decrypt.proofs.WholeInputs.{first_fault, memory_alone}
 use Rattle.esdk_report.specs.declared.failure.Failure.TheVariants as failures
 use Rattle.esdk_run.specs.Failures.{decryption_failure}
 use Rattle.esdk_run.specs.Objects.{Objects}
-use Rattle.esdk_run.specs.Told.{NothingFails}
-use Rattle.esdk_run.specs.Unarmoured.{ReadsText, TextEnds, given_by}
+use Rattle.esdk_run.specs.Told.{StreamsDontFail}
+use Rattle.esdk_run.specs.Unarmoured.{ReadsText, TextEnds, given_by_text}
 use Rattle.esdk_run.specs.UnarmouredDecrypt.{DecryptEndsAs, ReleasesSound}
 use Rattle.esdk_run.specs.UnarmouredTold.{IsWholeText, input_fault}
 use Rattle.esdk_run.proofs.Unarmouring.{of_told}
@@ -39,18 +39,18 @@ use Rattle.esdk_run.proofs.Unarmouring.{of_told}
 -- what a reader has of a text that is told
 pub text_seen : {Reach : List ℕ → List ℕ → Type 0} (input taken : SourceState) (So : SourceState → SourceState → Type 0) (text : List ℕ) (x : ReadsText Reach input taken So) → input.left ≡ Some text
     → x.seen.left ≡ Some (text_outlook text).bytes
-text_seen input taken So text x told = x.gives ∙ ap (λ (l : Option (List ℕ)). given_by l) told
+text_seen input taken So text x told = x.gives ∙ ap (λ (l : Option (List ℕ)). given_by_text l) told
 
 -- ---- only want of memory keeps a whole message in a whole text from being decrypted
 
-inner_memory : {Reach : List ℕ → List ℕ → Type 0} (reader : Reader) (before after : Objects) (unwritten : Type 0) (text : List ℕ) (error : DecryptError) → IsWholeText reader before.input text → NothingFails before after
-    → ReadsText Reach before.input after.input (λ seen read. DecryptEnds (asked_by reader) seen read before.output after.output unwritten error) → error ≡ errors.Memory
+inner_memory : {Reach : List ℕ → List ℕ → Type 0} (reader : Reader) (before after : Objects) (unwritten : Type 0) (text : List ℕ) (error : DecryptError) → IsWholeText reader before.input text → StreamsDontFail before after
+    → ReadsText Reach before.input after.input (λ seen read. DecryptEnds (decrypting_by reader) seen read before.output after.output unwritten error) → error ≡ errors.Memory
 inner_memory reader before after unwritten text error whole nothing x =
     memory_alone reader x.seen x.read before.output after.output unwritten (text_outlook text).bytes error
     (record { told = text_seen before.input after.input _ text x whole.told; few = outlook_few text; whole = whole.whole }) (x.stayed nothing.reading) nothing.writing x.so
 
-pub text_memory : (reader : Reader) (before after : Objects) (unwritten : Type 0) (text : List ℕ) (error : DecryptError) → IsWholeText reader before.input text → NothingFails before after
-    → DecryptEndsAs true (asked_by reader) before.input after.input before.output after.output unwritten error → error ≡ errors.Memory
+pub text_memory : (reader : Reader) (before after : Objects) (unwritten : Type 0) (text : List ℕ) (error : DecryptError) → IsWholeText reader before.input text → StreamsDontFail before after
+    → DecryptEndsAs true (decrypting_by reader) before.input after.input before.output after.output unwritten error → error ≡ errors.Memory
 text_memory reader before after unwritten text (errors.Fault (BadArmour number)) whole nothing ends =
     let bad : (text_outlook text).end ≡ Bad number = of_told before.input.left (λ t. (text_outlook t).end ≡ Bad number) text whole.told ends.0.told in
     let both : Whole ≡ Bad number = sym whole.end ∙ bad in absurd (cc both)
@@ -91,15 +91,15 @@ early_named TooLong verdicts.Whole fault other is = absurd (cc is)
 early_named TooLong (verdicts.Faulty fault) same other is = is
 
 fault_is : (reader : Reader) (seen read : SourceState) (before after : Objects) (unwritten : Type 0) (fault : Fault) (error : DecryptError) → decryption_failure error ≡ failures.Fault fault
-    → DecryptEnds (asked_by reader) seen read before.output after.output unwritten error → HasFault (asked_by reader) seen read before.output after.output fault
+    → DecryptEnds (decrypting_by reader) seen read before.output after.output unwritten error → DecryptFindsFault (decrypting_by reader) seen read before.output after.output fault
 fault_is reader seen read before after unwritten fault (errors.Fault other) is ends =
-    let same : other ≡ fault = cc is in subst (λ (f : Fault). HasFault (asked_by reader) seen read before.output after.output f) same ends
+    let same : other ≡ fault = cc is in subst (λ (f : Fault). DecryptFindsFault (decrypting_by reader) seen read before.output after.output f) same ends
 fault_is reader seen read before after unwritten fault (errors.Outside outside) is ends = absurd (cc is)
 fault_is reader seen read before after unwritten fault errors.Memory is ends = absurd (cc is)
 
 -- what was read is the first fault of all that the text gives
 first_of : {Reach : List ℕ → List ℕ → Type 0} (reader : Reader) (before after : Objects) (unwritten : Type 0) (text : List ℕ) (fault : Fault) (error : DecryptError) → before.input.left ≡ Some text
-    → decryption_failure error ≡ failures.Fault fault → ReadsText Reach before.input after.input (λ seen read. DecryptEnds (asked_by reader) seen read before.output after.output unwritten error)
+    → decryption_failure error ≡ failures.Fault fault → ReadsText Reach before.input after.input (λ seen read. DecryptEnds (decrypting_by reader) seen read before.output after.output unwritten error)
     → (fault_at_end (judged_by reader (text_outlook text).bytes).verdict ≡ Some fault)
     × Appends before.output.written after.output.written (content (judged_by reader (text_outlook text).bytes))
 first_of reader before after unwritten text fault error told is x =
@@ -108,9 +108,9 @@ first_of reader before after unwritten text fault error told is x =
 
 pub text_fault : (reader : Reader) (before after : Objects) (unwritten : Type 0) (text : List ℕ) (fault : Fault) (error : DecryptError) → before.input.left ≡ Some text
     → decryption_failure error ≡ failures.Fault fault
-    → TextEnds (failures.Fault fault) before.input after.input (λ seen read. DecryptEnds (asked_by reader) seen read before.output after.output unwritten error)
-    (λ seen read. ReleasesSound (asked_by reader) seen read before.output after.output (EndSeen seen read))
-    (λ seen read. ReleasesSound (asked_by reader) seen read before.output after.output (λ bytes. ⊤)) → TextFault reader before after text fault
+    → TextEnds (failures.Fault fault) before.input after.input (λ seen read. DecryptEnds (decrypting_by reader) seen read before.output after.output unwritten error)
+    (λ seen read. ReleasesSound (decrypting_by reader) seen read before.output after.output (EndSeen seen read))
+    (λ seen read. ReleasesSound (decrypting_by reader) seen read before.output after.output (λ bytes. ⊤)) → TextFault reader before after text fault
 text_fault reader before after unwritten text (BadArmour number) error told is (end, x) =
     let all = x.so in
     let seen_is : x.seen.left ≡ Some (text_outlook text).bytes = text_seen before.input after.input _ text x told in

@@ -9,8 +9,7 @@ use Rattle.whole_input.proofs.Coming.{came_more, came_none}
 use Rattle.esdk_fields.specs.Counts.{Rose, Stayed}
 use Rattle.esdk_fields.specs.declared.faults.Fault.TheVariants.{BadArmour, Truncated}
 use Rattle.esdk_fields.specs.declared.refusals.Outside.TheVariants.{InputTooLong, SourceFault}
-use Rattle.esdk_base.specs.Streams.{OnTold, SourceState}
-use Rattle.whole_input.specs.Pieces.{most_input}
+use Rattle.esdk_base.specs.Streams.{OnTold, SourceState, most_input}
 use Rattle.whole_input.specs.Taken.{Came, EndSeen, MostTaken}
 use Rattle.armour_core.specs.declared.reader.ArmourReader.{ArmourReader}
 use Rattle.armour_core.specs.declared.source.UnarmouredSource.{UnarmouredSource}
@@ -19,15 +18,15 @@ use Rattle.armour_core.specs.declared.text_end.TextEnd.TheVariants.{Bad, TooLong
 use Rattle.armour_core.specs.Outlook.{Outlook, text_outlook, with_front}
 use Rattle.armour_core.specs.Unarmoured.{groups_read, unarmoured}
 use Rattle.armour_core.specs.ReaderLaws.{ends_so, fails_more, fails_none, reads_more, reads_none, seen_more, wanted_before}
-use Rattle.armour_core.specs.ReaderOutlook.{FailsAs, IsOver, IsWanted, KeepsOutlook, Outlasts, ReadsOn, coming, gives, pending, reader_outlook, told_end}
+use Rattle.armour_core.specs.ReaderOutlook.{FailsAs, TextIsOver, IsWanted, KeepsOutlook, Outlasts, ArmourReadsOn, coming, gives, pending, reader_outlook, told_end}
 use Rattle.armour_core.proofs.Sizes.{outlook_few}
 use Rattle.esdk_decrypt.specs.declared.errors.DecryptError.{DecryptError}
 use Rattle.esdk_decrypt.specs.declared.errors.DecryptError.TheVariants as errors
 use Rattle.esdk_report.specs.declared.failure.Failure.{Failure}
 use Rattle.esdk_report.specs.declared.failure.Failure.TheVariants as failures
 use Rattle.esdk_run.specs.Failures.{decryption_failure}
-use Rattle.esdk_run.specs.Unarmoured.{AllRead, EndsSo, EndsText, IsLongText, NoMoreTaken, ReadsText, TextEnds, given_by}
-use Rattle.esdk_run.specs.UnarmouredEnd.{IsBehind, IsReadOut, LooksOn, SeesAs, SeesEnd, left_of}
+use Rattle.esdk_run.specs.Unarmoured.{AllRead, TextEndsSo, EndsText, IsLongText, NoMoreTaken, ReadsText, TextEnds, given_by_text}
+use Rattle.esdk_run.specs.UnarmouredEnd.{TextIsBehind, IsReadOut, LooksOn, SeesAs, SeesTextEnd, left_of}
 
 -- ---- what is told
 
@@ -110,7 +109,7 @@ reads_over {S} state input back made read now called sound judged text outlook n
 -- ---- helpers of the next section
 
 gives_left : (r : ArmourReader) (left : Option (List ℕ)) → ((text : List ℕ) → reader_outlook r text ≡ text_outlook text)
-    → option_map (λ text. (reader_outlook r text).bytes) left ≡ given_by left
+    → option_map (λ text. (reader_outlook r text).bytes) left ≡ given_by_text left
 gives_left r None outlook = refl
 gives_left r (Some text) outlook = ap (λ (o : Outlook). Some o.bytes) (outlook text)
 
@@ -128,7 +127,7 @@ unfolding text_outlook
 bytes_are text few = ap (λ (t : List ℕ). (unarmoured t).bytes) (take_all most_input text few)
 
 -- what is to come behind text that was read on and then looked at
-both_all : (a b c : SourceState) (r s t : ArmourReader) (h : List ℕ) (one : ReadsOn a b r s h) (two : ReadsOn b c s t []) (more : List ℕ) → (IsOver t → c.ended ≡ true → more ≡ [])
+both_all : (a b c : SourceState) (r s t : ArmourReader) (h : List ℕ) (one : ArmourReadsOn a b r s h) (two : ArmourReadsOn b c s t []) (more : List ℕ) → (TextIsOver t → c.ended ≡ true → more ≡ [])
     → reader_outlook r ((one.text ++ two.text) ++ more) ≡ with_front h (reader_outlook t more)
 unfolding reads_more
 both_all a b c r s t h one two more may = (reads_more a b c r s t h [] one two).all more may ∙ ap (λ (l : List ℕ). with_front l (reader_outlook t more)) (append-nil h)
@@ -165,7 +164,7 @@ whole_text x = x.first.reads.text ++ x.later.awaits.reads.text
 
 module _ {input taken seen read : SourceState} {sound : Bool} {judged : Result (Unit {0}) DecryptError} (x : ReadsOver input taken seen read sound judged) where
   -- what is seen at first is what the text gives
-  seen_gives : seen.left ≡ given_by input.left
+  seen_gives : seen.left ≡ given_by_text input.left
   seen_gives = x.seen_left ∙ gives_left x.r input.left x.outlook
 
   -- ---- how far the text was taken
@@ -184,7 +183,7 @@ module _ {input taken seen read : SourceState} {sound : Bool} {judged : Result (
   gives_count text few = ap (λ (o : Outlook). length o.bytes) (x.outlook text) ∙ ap length (bytes_are text few)
 
   -- what it gives and how it ends, whatever follows it
-  whole_outlook : (more : List ℕ) → (IsOver x.t → taken.ended ≡ true → more ≡ []) → text_outlook (whole_text x ++ more) ≡ with_front x.first.handed (reader_outlook x.t more)
+  whole_outlook : (more : List ℕ) → (TextIsOver x.t → taken.ended ≡ true → more ≡ []) → text_outlook (whole_text x ++ more) ≡ with_front x.first.handed (reader_outlook x.t more)
   whole_outlook more may = sym (x.outlook (whole_text x ++ more)) ∙ both_all input x.mid taken x.r x.s x.t x.first.handed x.first.reads x.later.awaits.reads more may
 
   -- the bytes that weren't read
@@ -301,7 +300,7 @@ module _ {input taken seen read : SourceState} {sound : Bool} {judged : Result (
       (ap (λ (l : Option (List ℕ)). option_map (λ t. (reader_outlook x.r t).end) l) is ∙ ap (λ (o : Outlook). Some o.end) (x.outlook text))
 
   -- the end of what came
-  ends_so_there : (end : TextEnd) → x.t.ending ≡ Some end → EndsSo taken (whole_text x) end
+  ends_so_there : (end : TextEnd) → x.t.ending ≡ Some end → TextEndsSo taken (whole_text x) end
   ends_so_there end is more may = ap (λ (o : Outlook). o.end) (whole_outlook more (λ over ended. may ended)) ∙ ends_so x.t end more is
 
   -- it was seen, where the text is whole
@@ -309,7 +308,7 @@ module _ {input taken seen read : SourceState} {sound : Bool} {judged : Result (
   seen_there end is whole =
       seen_more input x.mid taken x.r x.s x.t x.first.handed [] x.first.reads x.later.awaits.reads x.goes (is ∙ ap (λ (e : TextEnd). Some e) whole)
 
-  ends_text : (end : TextEnd) → read.faults ≡ seen.faults → SeesEnd x.mid taken x.s x.t end → EndsText input taken end
+  ends_text : (end : TextEnd) → read.faults ≡ seen.faults → SeesTextEnd x.mid taken x.s x.t end → EndsText input taken end
   ends_text end same sees = record {
     text = whole_text x;
     came = came_whole;
@@ -319,7 +318,7 @@ module _ {input taken seen read : SourceState} {sound : Bool} {judged : Result (
     faults = sees.faults ∙ none_failed same;
   }
 
-  is_long : read.faults ≡ seen.faults → SeesEnd x.mid taken x.s x.t TooLong → x.t.pieces.taken ≡ most_input → IsLongText input taken
+  is_long : read.faults ≡ seen.faults → SeesTextEnd x.mid taken x.s x.t TooLong → x.t.pieces.taken ≡ most_input → IsLongText input taken
   is_long same sees taken_is =
       let ends = ends_text TooLong same sees in
       record {
@@ -338,13 +337,13 @@ module _ {input taken seen read : SourceState} {sound : Bool} {judged : Result (
 
 module _ {input taken seen read : SourceState} {sound : Bool} (x : ReadsOver input taken seen read sound (Ok tt)) where
   -- behind the end of the bytes it was seen how the text ends
-  over_there : read.ended ≡ true → IsOver x.s
+  over_there : read.ended ≡ true → TextIsOver x.s
   over_there ended = elim (x.first.ended ended) [
     | inl before ↦ let e = sym x.unseen ∙ before in cc e
     | inr over ↦ over.0
   ]
 
-  sees_whole : sound ≡ true → AllCame seen read → SeesEnd x.mid taken x.s x.t Whole × IsReadOut x.t
+  sees_whole : sound ≡ true → AllCame seen read → SeesTextEnd x.mid taken x.s x.t Whole × IsReadOut x.t
   sees_whole is all = (sees_end x is all.end.faults).1 (inr (over_there all.end.seen))
 
   pub whole_reads : (So : SourceState → SourceState → Type 0) → sound ≡ true → AllCame seen read → So seen read → EndsText input taken Whole × ReadsText AllRead input taken So
@@ -381,7 +380,7 @@ text_decides So All Sound errors.Memory x same all front = absurd (sees_end x (j
 
 pub unread_text : (input : SourceState) (So : SourceState → SourceState → Type 0) → ((seen : SourceState) → So seen seen) → ReadsText NoMoreTaken input input So
 unread_text input So so =
-    let seen : SourceState = record { left = given_by input.left; given = 0; faults = 0; came = []; ended = false } in
+    let seen : SourceState = record { left = given_by_text input.left; given = 0; faults = 0; came = []; ended = false } in
     record {
       text = [];
       came = came_none input;
@@ -411,9 +410,9 @@ pub of_end : (ending : Option TextEnd) (end : TextEnd) (P : Type 0) → ending �
 of_end ending end P is holds = subst (λ (o : Option TextEnd). IfSome o (λ e. P)) is holds
 
 -- the end that was seen is the one that is told
-pub end_seen : (before now : SourceState) (old new : ArmourReader) (ending : Option TextEnd) (end : TextEnd) → ReadsOn before now old new [] → ending ≡ new.ending
+pub end_seen : (before now : SourceState) (old new : ArmourReader) (ending : Option TextEnd) (end : TextEnd) → ArmourReadsOn before now old new [] → ending ≡ new.ending
     → ((told : TextEnd) → told_end now new ≡ Some told → IfSome ending (λ e. e ≡ told)) → ending ≡ Some end → now.faults ≡ before.faults
-    → SeesEnd before now old new end
+    → SeesTextEnd before now old new end
 end_seen before now old new ending end reads from seen is same = record {
   ending = sym from ∙ is;
   told = λ told tells.
@@ -440,7 +439,7 @@ none_unseen before now old new keeps some left unseen = by_left before.left refl
         let some_pending : 1 ≤ length (pending new) = some unseen in
         omega (arith, some_pending, ap length none, length-append (pending new) (coming new.ending new k.0).bytes)
 
-pub none_behind : (before now : SourceState) (old new : ArmourReader) → ReadsOn before now old new [] → KeepsOutlook before now old new → (new.ending ≡ None → 1 ≤ length (pending new)) → IsBehind before old
+pub none_behind : (before now : SourceState) (old new : ArmourReader) → ArmourReadsOn before now old new [] → KeepsOutlook before now old new → (new.ending ≡ None → 1 ≤ length (pending new)) → TextIsBehind before old
     → new.ending ≡ None → ⊥
 none_behind before now old new reads keeps some (inl left) unseen = none_unseen before now old new keeps some left unseen
 none_behind before now old new reads keeps some (inr over) unseen = (reads.over over).1 unseen

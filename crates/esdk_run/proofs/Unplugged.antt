@@ -13,15 +13,15 @@ use Rattle.multi_keyring.specs.declared.tree.Node.{Node}
 use Rattle.multi_keyring.specs.Forest.{Forest, Nil, RawThen, HandedThen, MultiThen}
 use Rattle.multi_keyring.specs.Tree.{all_faults, all_keys, all_steady, all_wraps, both_keys, meanings}
 use Rattle.multi_keyring.proofs.Going.{first_true}
-use Rattle.json_values.specs.Values.{value_of}
+use Rattle.json_values.specs.Values.{json_value}
 use Rattle.keyring_file.specs.declared.plugs.Plug.{Plug}
 use Rattle.keyring_file.specs.Counts.{leaves_of}
 use Rattle.keyring_file.specs.Form.{Form, RawForm, PlugForm, MultiForm, form_of, ring_of}
 use Rattle.keyring_file.specs.Found.{wraps_of}
-use Rattle.keyring_file.specs.KeyFile.{is_json, json_tree, line_tree, node_tree, only_tree, start, tree_of}
+use Rattle.keyring_file.specs.KeyFile.{is_json, json_tree, line_tree, node_tree, only_tree, nothing_met, tree_of}
 use Rattle.keyring_file.specs.KeyLine.{key_line}
 use Rattle.keyring_file.specs.Leaves.{plug_leaf, raw_key, raw_leaf, wrap_key}
-use Rattle.keyring_file.specs.Tree.{beside, formed, multi, optional, row, tree}
+use Rattle.keyring_file.specs.Tree.{rows_beside, formed, multi, optional, row, tree}
 use Rattle.keyring_file.specs.Walk.{Met, Walk}
 use Rattle.keyring_file.proofs.Files.{file_is_low}
 use Rattle.keyring_file.proofs.RawKeys.{key_read, result_is}
@@ -38,7 +38,7 @@ IsRaw (RawThen key trees) = IsRaw trees
 IsRaw (HandedThen keyring trees) = ⊥
 IsRaw (MultiThen has members trees) = IsRaw members × IsRaw trees
 
-raw_beside : {P : Type 0} (a b : Forest P) → IsRaw a → IsRaw b → IsRaw (beside a b)
+raw_beside : {P : Type 0} (a b : Forest P) → IsRaw a → IsRaw b → IsRaw (rows_beside a b)
 raw_beside Nil b one two = two
 raw_beside (RawThen key trees) b one two = raw_beside trees b one two
 raw_beside (HandedThen keyring trees) b one two = absurd one
@@ -77,7 +77,7 @@ module _ {P : Type 0} (below : Data → Walk P (Forest P)) (reads : ReadsRaw bel
       let b = went (row below ds a.value.1) _ y a.rest in
       let one = reads d old a.value none a.is in
       let two = row_raw ds a.value.1 b.value one.none b.is in
-      subst (λ (y : Forest P × Met P). AreRaw y.0 y.1) (result_is (beside a.value.0 b.value.0, b.value.1) y b.rest)
+      subst (λ (y : Forest P × Met P). AreRaw y.0 y.1) (result_is (rows_beside a.value.0 b.value.0, b.value.1) y b.rest)
       (record { none = two.none; raw = raw_beside a.value.0 b.value.0 one.raw two.raw })
 
   optional_raw : (o : Option Data) (old : Met P) (y : Forest P × Met P) → old.plugs ≡ [] → optional below o old ≡ Ok y → AreRaw y.0 y.1
@@ -91,7 +91,7 @@ module _ {P : Type 0} (below : Data → Walk P (Forest P)) (reads : ReadsRaw bel
       let b = went (row below children a.value.1) _ y a.rest in
       let one = optional_raw generator old a.value none a.is in
       let two = row_raw children a.value.1 b.value one.none b.is in
-      subst (λ (y : (Bool × Forest P) × Met P). AreRaw y.0.1 y.1) (result_is ((is_some generator, beside a.value.0 b.value.0), b.value.1) y b.rest)
+      subst (λ (y : (Bool × Forest P) × Met P). AreRaw y.0.1 y.1) (result_is ((is_some generator, rows_beside a.value.0 b.value.0), b.value.1) y b.rest)
       (record { none = two.none; raw = raw_beside a.value.0 b.value.0 one.raw two.raw })
 
   formed_raw : (wraps : P → ℕ) (place : ℕ) (form : Form) (old : Met P) (y : Forest P × Met P) → old.plugs ≡ [] → formed wraps below place form old ≡ Ok y → AreRaw y.0 y.1
@@ -123,20 +123,20 @@ module _ {P : Type 0} (wraps : P → ℕ) (trees : Forest P) where
   of_key (Ok w) e = let same : RawThen w Nil ≡ trees = cc in subst IsRaw same tt
   of_key (Err refusal) e = absurd cc
 
-  of_walk : (version : _) (node : Data) (r : Result (Forest P × Met P) FileRefusal) → tree wraps version 8 node (start []) ≡ r → only_tree r ≡ Ok trees → IsRaw trees
-  of_walk version node (Ok y) is e = let same : y.0 ≡ trees = cc in subst IsRaw same (tree_raw wraps version 8 node (start []) y refl is).raw
+  of_walk : (version : _) (node : Data) (r : Result (Forest P × Met P) FileRefusal) → tree wraps version 8 node (nothing_met []) ≡ r → only_tree r ≡ Ok trees → IsRaw trees
+  of_walk version node (Ok y) is e = let same : y.0 ≡ trees = cc in subst IsRaw same (tree_raw wraps version 8 node (nothing_met []) y refl is).raw
   of_walk version node (Err refusal) is e = absurd cc
 
   of_ring : (ring : _) → node_tree wraps [] ring ≡ Ok trees → IsRaw trees
-  of_ring (Some (version, node)) e = of_walk version node (tree wraps version 8 node (start [])) refl e
+  of_ring (Some (version, node)) e = of_walk version node (tree wraps version 8 node (nothing_met [])) refl e
   of_ring None e = absurd cc
 
   of_json : (file : Option Data) → json_tree wraps [] file ≡ Ok trees → IsRaw trees
   of_json (Some file) e = of_ring (ring_of file) e
   of_json None e = absurd cc
 
-  of_either : (bytes : List ℕ) (json : Bool) → (if json then json_tree wraps [] (value_of bytes) else line_tree (key_line bytes)) ≡ Ok trees → IsRaw trees
-  of_either bytes true e = of_json (value_of bytes) e
+  of_either : (bytes : List ℕ) (json : Bool) → (if json then json_tree wraps [] (json_value bytes) else line_tree (key_line bytes)) ≡ Ok trees → IsRaw trees
+  of_either bytes true e = of_json (json_value bytes) e
   of_either bytes false e = of_key (key_line bytes) e
 
   of_file : (bytes : List ℕ) → tree_of wraps bytes [] ≡ Ok trees → IsRaw trees

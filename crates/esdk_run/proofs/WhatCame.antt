@@ -10,18 +10,18 @@ use Rattle.context_codec.specs.Context.{KeyValue}
 use Rattle.keyring_trait.specs.Keyring.{KeyringMeaning}
 use Rattle.esdk_encrypt.proofs.Gaining.{seals_what_came}
 use Rattle.esdk_encrypt.proofs.Telling.{encrypts_more}
-use Rattle.esdk_decrypt.specs.Decrypt.{Asked}
+use Rattle.esdk_decrypt.specs.Decrypt.{DecryptAsked}
 use Rattle.esdk_decrypt.specs.Told.{Reader}
-use Rattle.esdk_run.specs.ArmouredMessage.{form_of, output_gains}
+use Rattle.esdk_run.specs.ArmouredMessage.{output_form, output_gains}
 use Rattle.esdk_run.specs.Decrypt.{DecryptsInput, decrypt_asked, reader_of}
 use Rattle.esdk_run.specs.Encrypt.{EncryptsInput, encrypt_asked, refusal_asked, run_writer}
 use Rattle.esdk_run.specs.Objects.{Objects, Unchanged, with_input}
-use Rattle.esdk_run.specs.Read.{ReadsWhole, SaysWhatIsReadAs}
+use Rattle.esdk_run.specs.Read.{DecryptReadsWhole, SaysWhatIsReadAs}
 use Rattle.esdk_run.specs.Run.{DecryptRuns, EncryptRuns, TellsOrLacksMemory}
 use Rattle.esdk_run.specs.Trees.{TreeIs, Trees}
 use Rattle.esdk_run.specs.Unarmoured.{ReadsAll, outlook_of}
 use Rattle.esdk_run.specs.UnarmouredDecrypt.{DecryptsAs}
-use Rattle.esdk_run.specs.WhatCame.{OpenedWhatCame, OpensIfDone, OpensWhole, SealedWhatCame, SealsIfDone, TreeCame}
+use Rattle.esdk_run.specs.WhatCame.{OpenedWhatCame, OpensAllThatCame, SealedWhatCame, TreeCame}
 use Rattle.esdk_run.proofs.Decryption.{reader_ends}
 use Rattle.esdk_run.proofs.Keys.{told_says_more}
 use Rattle.esdk_run.proofs.Reading.{Ending, says_what_is_read}
@@ -42,14 +42,14 @@ sealed_input trees asked before after done = record {
   tree = done.tree;
   keyring = tree_came trees asked.keyring before.shelf after.shelf done.tree done.has.file;
   sealed = λ keys told.
-      seals_what_came (form_of asked.armour) (run_writer asked done.context keys) (refusal_asked asked done.context done.tree) done.tree.faults done.left.faults
+      seals_what_came (output_form asked.armour) (run_writer asked done.context keys) (refusal_asked asked done.context done.tree) done.tree.faults done.left.faults
       before.input after.input before.output after.output before.entropy after.entropy
       (encrypts_more (encrypt_asked asked done.context done.tree done.left) _ before.input after.input (output_gains asked.armour before.output after.output) before.entropy after.entropy
       (told_says_more asked done.context done.tree done.left keys done.has.lawful told) done.done);
 }
 
 pub seals_if_done : (trees : Trees) (asked : EncryptWords) (before after : Objects) (unchanged : Unchanged) (code : ℕ)
-    → EncryptRuns trees asked before after unchanged code → SealsIfDone trees asked before after code
+    → EncryptRuns trees asked before after unchanged code → code ≡ 0 → SealedWhatCame trees asked before after
 seals_if_done trees asked before after unchanged code (inl done) zero = sealed_input trees asked before after done.1
 seals_if_done trees asked before after unchanged code (inr fails) zero =
     absurd (not_done fails.failure code before.report after.report fails.said zero)
@@ -63,7 +63,7 @@ record AllOf (armour : Bool) (input taken : SourceState) : Type 0 where
   end : taken.ended ≡ true
   sound : (outlook_of armour bytes).end ≡ ends.Whole
 
-came_all : (armour : Bool) (asked : Asked) (input taken : SourceState) (output put : SinkState) (context : List KeyValue) → DecryptsAs armour asked input taken output put context → AllOf armour input taken
+came_all : (armour : Bool) (asked : DecryptAsked) (input taken : SourceState) (output put : SinkState) (context : List KeyValue) → DecryptsAs armour asked input taken output put context → AllOf armour input taken
 came_all false asked input taken output put context done = record { bytes = done.bytes; came = done.releases.came.told; end = done.end.seen; sound = refl }
 came_all true asked input taken output put context (ended, x) = record {
   bytes = ended.text;
@@ -74,7 +74,7 @@ came_all true asked input taken output put context (ended, x) = record {
 
 -- what is read of an input, where the run is done
 abbrev AllIsRead : Bool → Reader → Objects → Objects → ℕ → Type 0
-AllIsRead armour reader before after code = ReadsAll armour before.input after.input (λ seen read. ReadsWhole reader (with_input before seen) (with_input after read) code)
+AllIsRead armour reader before after code = ReadsAll armour before.input after.input (λ seen read. DecryptReadsWhole reader (with_input before seen) (with_input after read) code)
 
 read_done : (reader : Reader) (armour : Bool) (before after : Objects) (code : ℕ) → code ≡ 0 → SaysWhatIsReadAs armour reader before after code → AllIsRead armour reader before after code
 read_done reader armour before after code zero (inl all) = all
@@ -84,11 +84,11 @@ same_bytes : (first now x y : List ℕ) → now ≡ first ++ x → now ≡ first
 same_bytes first now x y one two = append_cancel_left first x y (sym one ∙ two)
 
 -- a whole message that was read is the one that came
-opens_read : (reader : Reader) (bytes : List ℕ) (old new : Objects) (code : ℕ) (read : ReadsWhole reader old new code) → read.bytes ≡ bytes → OpensWhole reader bytes old.output new.output
-opens_read reader bytes old new code read same = subst (λ (b : List ℕ). OpensWhole reader b old.output new.output) same (record { whole = read.whole; gained = read.gains.gained })
+opens_read : (reader : Reader) (bytes : List ℕ) (old new : Objects) (code : ℕ) (read : DecryptReadsWhole reader old new code) → read.bytes ≡ bytes → OpensAllThatCame reader bytes old.output new.output
+opens_read reader bytes old new code read same = subst (λ (b : List ℕ). OpensAllThatCame reader b old.output new.output) same (record { whole = read.whole; gained = read.gains.gained })
 
 opens_whole : (reader : Reader) (armour : Bool) (before after : Objects) (code : ℕ) (bytes : List ℕ) → after.input.came ≡ before.input.came ++ bytes → AllIsRead armour reader before after code
-    → OpensWhole reader (outlook_of armour bytes).bytes before.output after.output
+    → OpensAllThatCame reader (outlook_of armour bytes).bytes before.output after.output
 opens_whole reader false before after code bytes came read =
     opens_read reader bytes before after code read (same_bytes before.input.came after.input.came read.bytes bytes read.gains.came.told came)
 opens_whole reader true before after code bytes came (ended, x) =
@@ -124,7 +124,7 @@ opened_input trees asked before after unchanged code context same zero done told
 
 pub opens_if_done : (trees : Trees) (asked : DecryptWords) (before after : Objects) (unchanged : Unchanged) (code : ℕ)
     → (unchanged.output → after.output ≡ before.output) → DecryptRuns trees asked before after unchanged code
-    → OpensIfDone trees asked before after code
+    → code ≡ 0 → OpenedWhatCame trees asked before after
 opens_if_done trees asked before after unchanged code same (inl done) zero =
     opened_input trees asked before after unchanged code done.context same zero done.done done.told
 opens_if_done trees asked before after unchanged code same (inr fails) zero =

@@ -1,5 +1,5 @@
 -- The ages of the entries of a batch's cache: they are those of the clock.
-use Rattle.std.specs.Prelude.{◌≡◌, ◌⊎◌, ℕ, List, [], length}
+use Rattle.std.specs.Prelude.{◌≡◌, ℕ, List, [], length}
 use Rattle.std.specs.Io.KnownBytes.{Appends}
 use Rattle.esdk_base.specs.Streams.{ClockState, ShelfState, SinkState}
 use Rattle.keyring_trait.specs.declared.journal.JournalLine.{JournalLine}
@@ -36,9 +36,3 @@ pub record ShowsAges (name : List ℕ) (shelf : ShelfState) (output put : SinkSt
   pub lines : List JobLine
   pub gained : Appends output.written put.written (report_of lines)
   pub serves : ServesFileInTime name shelf clock ticked lines
-
--- so it is, where the batch was run and reported
-abbrev pub KeepsAges : List ℕ → ShelfState → SinkState → SinkState → ClockState
-    → ClockState → ℕ → Type 0
-KeepsAges name shelf output put clock ticked code =
-    (code ≡ 0) ⊎ (code ≡ 7) → ShowsAges name shelf output put clock ticked

@@ -1,8 +1,7 @@
 -- What an audit says, where the shelf tells its files and the tree tells its keys.
-use Rattle.std.specs.Prelude.{◌≡◌, ◌⊎◌, ◌≤◌, ◌<◌, ◌^◌, ℕ, List, [], ◌∷◌, length, map, All, Option}
+use Rattle.std.specs.Prelude.{◌≡◌, ◌≤◌, ◌<◌, ◌^◌, ℕ, List, [], ◌∷◌, length, map, All, Option}
 use Rattle.std.specs.Prelude.{Some, Ok}
 use Rattle.std.specs.Io.KnownBytes.{Appends}
-use Rattle.esdk_fields.specs.Counts.{Stayed}
 use Rattle.esdk_base.specs.Shelf.{Files, Holds}
 use Rattle.keyring_trait.specs.Keyring.{KeyringMeaning}
 use Rattle.keyring_trait.specs.Wrapping.{WrapKeyValue}
@@ -15,7 +14,6 @@ use Rattle.audit_core.specs.MessageFiles.{AreHeld}
 use Rattle.audit_core.specs.Messages.{Message, audited}
 use Rattle.esdk_run.specs.Audit.{audit_status}
 use Rattle.esdk_run.specs.Objects.{Objects}
-use Rattle.esdk_run.specs.Told.{WhereNoneFailed}
 use Rattle.esdk_run.specs.Trees.{Trees}
 
 -- The shelf tells the file of the audit, its keyring file, and the files of its messages. These are
@@ -42,28 +40,9 @@ pub record ShowsOpeners (leaves : List (List WrapKeyValue)) (messages : List Mes
       (audit_lines (length leaves) (map (audited leaves) messages))
   pub status : code ≡ audit_status (map (audited leaves) messages)
 
--- At status 0 and 7 the output gained exactly the lines of what the files' bytes say, and the
--- status is 0 where each message has an opener, else 7.
-abbrev pub SaysTheOpeners : Trees → (name : List ℕ) → Objects → Objects → ℕ → Type 0
-SaysTheOpeners trees name before after code =
-    (tree : KeyringMeaning) (leaves : List (List WrapKeyValue)) (messages : List Message)
-    → HoldsAudit trees before.shelf.files name tree leaves messages → (code ≡ 0) ⊎ (code ≡ 7)
-    → WhereNoneFailed trees tree (ShowsOpeners leaves messages before after code)
-
 -- Both files are no longer than a file may be that is read whole, and each message's is shorter
 -- than 2^62 bytes.
 pub record HasShortFiles (bytes keyring : List ℕ) (messages : List Message) : Type 0 where
   pub few : length bytes ≤ most_file
   pub keyring_few : length keyring ≤ most_file
   pub messages_short : All (λ m. length m.bytes < 2 ^ 62) messages
-
--- Messages whose files the shelf tells are audited, unless memory runs out (status 5), or the
--- shelf, the output or a keyring fails.
-abbrev pub AuditsWhatIsHeld : Trees → (name : List ℕ) → Objects → Objects → ℕ → Type 0
-AuditsWhatIsHeld trees name before after code =
-    (tree : KeyringMeaning) (leaves : List (List WrapKeyValue)) (messages : List Message)
-    (held : HoldsAudit trees before.shelf.files name tree leaves messages)
-    → HasShortFiles held.bytes held.keyring messages
-    → Stayed before.shelf.faults after.shelf.faults
-    → Stayed before.output.faults after.output.faults
-    → (code ≡ 5) ⊎ WhereNoneFailed trees tree ((code ≡ 0) ⊎ (code ≡ 7))

@@ -39,7 +39,8 @@ pub record JobsAre (old new : ShelfState) (name : List ℕ) (file : JobFile) : T
 
 -- The job file means this, and then the keyring file that it names was read as this tree. The files
 -- of the shelf stayed.
-pub record HasJobs (trees : Trees) (name : List ℕ) (old new : ShelfState) (file : JobFile) (tree : KeyringMeaning) : Type 0 where
+pub record HasJobs (trees : Trees) (name : List ℕ) (old new : ShelfState) (file : JobFile)
+    (tree : KeyringMeaning) : Type 0 where
   pub between : ShelfState
   pub jobs : JobsAre old between name file
   pub keyring : TreeIs trees.read between new file.keyring tree
@@ -47,7 +48,8 @@ pub record HasJobs (trees : Trees) (name : List ℕ) (old new : ShelfState) (fil
   pub stay : new.files ≡ old.files
 
 -- The job file means this, and the keyring file that it names gives no tree, for this reason.
-pub record JobsHaveNoTree (trees : Trees) (name : List ℕ) (old new : ShelfState) (failure : Failure) : Type 0 where
+pub record JobsHaveNoTree (trees : Trees) (name : List ℕ) (old new : ShelfState) (failure : Failure)
+    : Type 0 where
   pub file : JobFile
   pub between : ShelfState
   pub jobs : JobsAre old between name file
@@ -55,8 +57,10 @@ pub record JobsHaveNoTree (trees : Trees) (name : List ℕ) (old new : ShelfStat
 
 -- Why there are no jobs to run: the job file gives none, or the keyring file that it names gives no
 -- tree. The files of the shelf stayed.
-pub record HasNoJobs (trees : Trees) (name : List ℕ) (old new : ShelfState) (failure : Failure) : Type 0 where
-  pub cause : FileFails (jobs_in name) old new name failure ⊎ JobsHaveNoTree trees name old new failure
+pub record HasNoJobs (trees : Trees) (name : List ℕ) (old new : ShelfState) (failure : Failure)
+    : Type 0 where
+  pub cause : FileFails (jobs_in name) old new name failure
+      ⊎ JobsHaveNoTree trees name old new failure
   pub stay : new.files ≡ old.files
 
 -- ---- what is run
@@ -64,7 +68,8 @@ pub record HasNoJobs (trees : Trees) (name : List ℕ) (old new : ShelfState) (f
 -- The jobs had their turns over this manager, and this is said of them: of the files that the shelf
 -- tells; and of any files as its calls show them, where each read agrees with them. The journal of
 -- what it served is within the limits of the file's cache.
-pub record RunsWithin (manager : Saying) (file : JobFile) (old new : ShelfState) (entropy spent : EntropyState) (lines : List JobLine) : Type 0 where
+pub record RunsWithin (manager : Saying) (file : JobFile) (old new : ShelfState)
+    (entropy spent : EntropyState) (lines : List JobLine) : Type 0 where
   pub journal : List JournalLine
   pub runs : RunsBatch manager file 0 old.files new.files entropy spent [] journal lines
   pub shown : (held : Files) → RunsBatch manager file 0 (Some held) (shown_files held old new)
@@ -76,7 +81,8 @@ pub record RunsWithin (manager : Saying) (file : JobFile) (old new : ShelfState)
 -- end where it did then. Each line that says that the shelf, the entropy or a keyring failed is a
 -- failure more that it counted, but where the shelf tells that the job's file isn't there. The file
 -- of each job was finished, unless the shelf failed and the job isn't done.
-pub record RunsJobFile (trees : Trees) (name : List ℕ) (old new : ShelfState) (entropy spent : EntropyState) (lines : List JobLine) : Type 0 where
+pub record RunsJobFile (trees : Trees) (name : List ℕ) (old new : ShelfState)
+    (entropy spent : EntropyState) (lines : List JobLine) : Type 0 where
   pub file : JobFile
   pub tree : KeyringMeaning
   pub left : KeyringMeaning
@@ -88,7 +94,8 @@ pub record RunsJobFile (trees : Trees) (name : List ℕ) (old new : ShelfState) 
   pub others : OnlyWritten file.jobs read.files new.files
   pub told : is_some new.files ≡ is_some read.files
   pub finished : AreFinished file.jobs read new lines
-  pub failures : CountsFailures file.jobs (tally_of read entropy.faults tree.faults) (tally_of new spent.faults left.faults) lines
+  pub failures : CountsFailures file.jobs (tally_of read entropy.faults tree.faults)
+      (tally_of new spent.faults left.faults) lines
 
 -- Both files were read; which turns the jobs had isn't said. Of the tree this is left, if something
 -- is given back; no file that the shelf tells changed but those that jobs write, and it tells its
@@ -142,18 +149,14 @@ JobsFail trees name old new undrawn failures.Memory =
     ⊎ RunsSomeTurns trees name old new
 JobsFail trees name old new undrawn failure = ⊥
 
--- The jobs had their turns, and memory ran out for the text of their report.
-abbrev pub LacksReport : Trees → List ℕ → Objects → Objects → Type 0
-LacksReport trees name before after = (lines : List JobLine)
-    × RunsJobFile trees name before.shelf after.shelf before.entropy after.entropy lines
-
--- Why the jobs weren't run, or their report wasn't written. `unwritten` says that the output is as
--- before, as it is but where it failed.
+-- Why the jobs weren't run, or their report wasn't written: also for want of memory behind all
+-- turns. `unwritten` says that the output is as before, as it is but where it failed.
 abbrev pub BatchFails : Trees → List ℕ → Objects → Objects → Type 0 → Type 0 → Failure → Type 0
 BatchFails trees name before after unwritten undrawn (failures.Outside outsides.SinkFault) =
     LosesReport trees name before after
 BatchFails trees name before after unwritten undrawn failures.Memory =
     (JobsFail trees name before.shelf after.shelf undrawn failures.Memory
-    ⊎ LacksReport trees name before after) × unwritten
+    ⊎ ((lines : List JobLine) × RunsJobFile trees name before.shelf after.shelf before.entropy
+    after.entropy lines)) × unwritten
 BatchFails trees name before after unwritten undrawn failure =
     JobsFail trees name before.shelf after.shelf undrawn failure × unwritten

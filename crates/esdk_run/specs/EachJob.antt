@@ -1,9 +1,12 @@
--- What is said of each job of a batch, where the shelf tells its files: what is read for a decrypt job, and which jobs must be done.
-use Rattle.std.specs.Prelude.{◌≡◌, ◌⊎◌, ◌≤◌, ◌<◌, ℕ, true, List, [], length, take, ⊤, Option, Some, None}
+-- What is said of each job of a batch, where the shelf tells its files: what is read for a decrypt
+-- job, and which jobs must be done.
+use Rattle.std.specs.Prelude.{◌≡◌, ◌⊎◌, ◌≤◌, ◌<◌, ℕ, true, List, [], length, take, ⊤, Option, Some}
+use Rattle.std.specs.Prelude.{None}
 use Rattle.std.specs.List.{AllZip}
 use Rattle.std.specs.Io.KnownBytes.{Appends}
+use Rattle.header_codec.specs.Header.{no_limits}
 use Rattle.esdk_base.specs.Shelf.{Files, file_of}
-use Rattle.esdk_base.specs.Streams.{ShelfState, SinkState}
+use Rattle.esdk_base.specs.Streams.{ShelfState, SinkState, most_input}
 use Rattle.esdk_fields.specs.Counts.{Stayed}
 use Rattle.esdk_fields.specs.declared.faults.Fault.{Fault}
 use Rattle.esdk_fields.specs.declared.refusals.Outside.TheVariants as outsides
@@ -24,60 +27,60 @@ use Rattle.batch_report.specs.declared.job_lines.JobEnd.{JobEnd}
 use Rattle.batch_report.specs.declared.job_lines.JobEnd.TheVariants as ends
 use Rattle.batch_report.specs.BatchReport.{is_done, report_of}
 use Rattle.esdk_batch.specs.Batch.{seen_of}
-use Rattle.esdk_batch.specs.Files.{most_input}
-use Rattle.esdk_batch.specs.Answering.{no_limits}
-use Rattle.esdk_batch.specs.SealStory.{SealAsked, Seen, held, most_sealed}
+use Rattle.esdk_batch.specs.SealStory.{SealAsked, Seen, held_or_none, most_sealed}
 use Rattle.esdk_run.specs.Batch.{HasJobs}
 use Rattle.esdk_run.specs.Objects.{Objects}
-use Rattle.esdk_run.specs.Served.{HoldsJobs}
 use Rattle.esdk_run.specs.Giving.{refusal_over}
 use Rattle.esdk_run.specs.Serving.{IsSteadyIfCached}
 use Rattle.esdk_run.specs.Trees.{Trees}
 
 -- ---- what is read for a decrypt job
 
--- Who reads for a decrypt job, where the tree tells these keys: they, with the job's given pairs and
--- its required keys. A job sets no limits, and takes no message that doesn't commit to its data key.
+-- Who reads for a decrypt job, where the tree tells these keys: they, with the job's given pairs
+-- and its required keys. A job sets no limits, and takes no message that doesn't commit to its data
+-- key.
 abbrev pub reader_for : List WrapKeyValue → List KeyValue → List (List ℕ) → Reader
 reader_for keys given required =
     record { keys = keys; settings = no_limits; given = given; required = required }
 
 -- The file that the job reads holds these bytes, and the file that it writes what their judgement
 -- releases.
-pub record Releases (reader : Reader) (seen : Seen) (bytes : List ℕ) : Type 0 where
+pub record JobReleases (reader : Reader) (seen : Seen) (bytes : List ℕ) : Type 0 where
   pub from : seen.from ≡ Some bytes
   pub to : seen.to ≡ Some (content (judged_by reader bytes))
 
 -- They are a whole message.
-pub record ReadsWhole (reader : Reader) (seen : Seen) : Type 0 where
+pub record JobReadsWhole (reader : Reader) (seen : Seen) : Type 0 where
   pub bytes : List ℕ
-  pub releases : Releases reader seen bytes
+  pub releases : JobReleases reader seen bytes
   pub whole : (judged_by reader bytes).verdict ≡ Whole
 
 -- They have this fault.
-pub record ReadsFault (reader : Reader) (seen : Seen) (fault : Fault) : Type 0 where
+pub record JobReadsFault (reader : Reader) (seen : Seen) (fault : Fault) : Type 0 where
   pub bytes : List ℕ
-  pub releases : Releases reader seen bytes
+  pub releases : JobReleases reader seen bytes
   pub cause : fault_at_end (judged_by reader bytes).verdict ≡ Some fault
 
 -- The file that it writes holds a front of what the judgement releases of the file that it reads.
-pub record ReleasesFront (reader : Reader) (seen : Seen) : Type 0 where
+pub record JobReleasesFront (reader : Reader) (seen : Seen) : Type 0 where
   pub count : ℕ
-  pub front : seen.to ≡ Some (take count (content (judged_by reader (held seen.from))))
+  pub front : seen.to ≡ Some (take count (content (judged_by reader (held_or_none seen.from))))
 
 -- what a decrypt job comes to, by how it ended, where no keyring failed
 abbrev pub ReadsSo : Reader → Seen → JobEnd → Type 0
-ReadsSo reader seen ends.Done = ReadsWhole reader seen
-ReadsSo reader seen (ends.Fault fault) = ReadsFault reader seen fault
-ReadsSo reader seen (ends.Outside outsides.ShelfFault) = (seen.to ≡ seen.before) ⊎ ReleasesFront reader seen
+ReadsSo reader seen ends.Done = JobReadsWhole reader seen
+ReadsSo reader seen (ends.Fault fault) = JobReadsFault reader seen fault
+ReadsSo reader seen (ends.Outside outsides.ShelfFault) =
+    (seen.to ≡ seen.before) ⊎ JobReleasesFront reader seen
 ReadsSo reader seen (ends.Outside outsides.InputTooLong) =
-    ReleasesFront reader seen × (most_input ≤ length (held seen.from))
+    JobReleasesFront reader seen × (most_input ≤ length (held_or_none seen.from))
 ReadsSo reader seen end = ⊥
 
 -- of any job's work; nothing is said here of an encrypt job
 abbrev pub WorkReadsSo : List WrapKeyValue → Work → Seen → JobEnd → Type 0
 WorkReadsSo keys (Encrypt length frame context required) seen end = ⊤
-WorkReadsSo keys (Decrypt given required) seen end = ReadsSo (reader_for keys given required) seen end
+WorkReadsSo keys (Decrypt given required) seen end =
+    ReadsSo (reader_for keys given required) seen end
 
 -- a job and its line, where the shelf tells its files before the batch and after it
 abbrev pub IsReadBy : List WrapKeyValue → Option Files → Option Files → Job → JobLine → Type 0
@@ -103,17 +106,13 @@ pub record ShowsJudgements (trees : Trees) (name : List ℕ) (before after : Obj
       → Stayed tree.faults left.faults → IsSteadyIfCached file.cache tree
       → AllZip (IsReadBy keys before.shelf.files after.shelf.files) file.jobs lines
 
--- so it is, where the batch was run and reported
-abbrev pub SaysEachJudgement : Trees → List ℕ → Objects → Objects → ℕ → Type 0
-SaysEachJudgement trees name before after code =
-    (code ≡ 0) ⊎ (code ≡ 7) → ShowsJudgements trees name before after
-
 -- ---- jobs that must be done
 
 -- An encrypt job that asks so must be done: the file that it reads holds a text, the tree refuses
 -- nothing of it, and the text is no longer than was declared, than a message has room for, and than
 -- is taken of a file.
-pub record MustSeal (tree : KeyringMeaning) (from : Option (List ℕ)) (asked : SealAsked) : Type 0 where
+pub record MustSeal (tree : KeyringMeaning) (from : Option (List ℕ)) (asked : SealAsked)
+    : Type 0 where
   pub text : List ℕ
   pub holds : from ≡ Some text
   pub unrefused : refusal_over asked.context tree ≡ None
@@ -132,41 +131,32 @@ pub record MustOpen (cache : Option LimitsValue) (tree : KeyringMeaning) (from :
   pub few : length bytes < most_input
   pub whole : (judged_by (reader_for keys given required) bytes).verdict ≡ Whole
 
--- an encrypt job is done, if it must be
-abbrev pub SealsIfItMust : KeyringMeaning → SealAsked → Option (List ℕ) → JobLine → Type 0
-SealsIfItMust tree asked from line = MustSeal tree from asked → is_done line ≡ true
-
 -- a job is done that must be, by its work and what the file holds that it reads
 abbrev pub WorksIfItMust : Option LimitsValue → KeyringMeaning → Work → Option (List ℕ) → JobLine
     → Type 0
 WorksIfItMust cache tree (Encrypt length frame context required) from line =
-    SealsIfItMust tree (record { declared = length; frame = frame; context = context; required = required }) from line
+    MustSeal tree from (record {
+      declared = length;
+      frame = frame;
+      context = context;
+      required = required;
+    }) → is_done line ≡ true
 WorksIfItMust cache tree (Decrypt given required) from line =
     MustOpen cache tree from given required → is_done line ≡ true
-
--- a job and its line, over the files before the batch
-abbrev pub DoesJob : Option LimitsValue → KeyringMeaning → Option Files → Job → JobLine → Type 0
-DoesJob cache tree files job line = WorksIfItMust cache tree job.work (file_of files job.from) line
 
 -- The output gained the report of these jobs, one line for each, and each that must be is done.
 pub record DoesJobs (cache : Option LimitsValue) (tree : KeyringMeaning) (files : Option Files)
     (jobs : List Job) (before after : SinkState) : Type 0 where
   pub lines : List JobLine
   pub gained : Appends before.written after.written (report_of lines)
-  pub done : AllZip (DoesJob cache tree files) jobs lines
+  pub done : AllZip (λ job line. WorksIfItMust cache tree job.work (file_of files job.from) line)
+      jobs lines
 
 -- No count of faults rose of the shelf, the output, the entropy and the tree, and none is at its
 -- end.
-pub record NoJobFails (trees : Trees) (tree : KeyringMeaning) (before after : Objects) : Type 0 where
+pub record NothingOfBatchFails (trees : Trees) (tree : KeyringMeaning) (before after : Objects)
+    : Type 0 where
   pub reading : Stayed before.shelf.faults after.shelf.faults
   pub writing : Stayed before.output.faults after.output.faults
   pub drawing : Stayed before.entropy.faults after.entropy.faults
   pub opening : (left : KeyringMeaning) → trees.kept ≡ Some left → Stayed tree.faults left.faults
-
--- Of jobs that the shelf tells each that must be is done, unless memory runs out or an object fails.
-abbrev pub DoesWhatItMust : Trees → List ℕ → Objects → Objects → ℕ → Type 0
-DoesWhatItMust trees name before after code =
-    (file : JobFile) (tree : KeyringMeaning) → HoldsJobs trees before.shelf.files name file tree
-    → NoJobFails trees tree before after
-    → (code ≡ 5)
-    ⊎ DoesJobs file.cache tree before.shelf.files file.jobs before.output after.output

@@ -1,5 +1,6 @@
 -- What the command `extract` comes to.
 use Rattle.std.specs.Prelude.{◌≡◌, ◌⊎◌, ℕ, ◌≤◌, ◌+◌, List, false, None}
+use Rattle.header_codec.specs.Header.{no_limits}
 use Rattle.esdk_args.specs.declared.request.DecryptWords.{DecryptWords}
 use Rattle.esdk_args.specs.declared.request.ExtractWords.{ExtractWords}
 use Rattle.esdk_base.specs.Streams.{ShelfState}
@@ -7,8 +8,7 @@ use Rattle.esdk_fields.specs.declared.refusals.Outside.TheVariants as outsides
 use Rattle.context_codec.specs.Context.{KeyValue}
 use Rattle.keyring_trait.specs.Keyring.{KeyringMeaning}
 use Rattle.keyring_trait.specs.Wrapping.{WrapKeyValue}
-use Rattle.esdk_batch.specs.Answering.{no_limits}
-use Rattle.esdk_decrypt.specs.Decrypt.{Asked}
+use Rattle.esdk_decrypt.specs.Decrypt.{DecryptAsked}
 use Rattle.esdk_decrypt.specs.Told.{Reader}
 use Rattle.whole_input.specs.FileReads.{Grows}
 use Rattle.extract_core.specs.declared.errors.ExtractError.{ExtractError}
@@ -39,7 +39,8 @@ abbrev pub range_asked : ExtractWords → ByteRange
 range_asked asked = range_of asked.at asked.count
 
 -- what is asked for, of a tree that means this before and that after the run
-abbrev pub extract_asked : ExtractWords → List KeyValue → KeyringMeaning → KeyringMeaning → Asked
+abbrev pub extract_asked : ExtractWords → List KeyValue → KeyringMeaning → KeyringMeaning
+    → DecryptAsked
 extract_asked asked given tree left = decrypt_asked (as_decryption asked) given tree left
 
 -- who reads where the tree tells these keys
@@ -70,7 +71,8 @@ pub record ExtractsRange (trees : Trees) (asked : ExtractWords) (before after : 
     : Type 0 where
   pub tree_for : HasTreeFor trees asked before after
   pub written : ℕ
-  pub done : Extracts (extract_asked asked tree_for.given tree_for.tree tree_for.left) (range_asked asked)
+  pub done : Extracts (extract_asked asked tree_for.given tree_for.tree tree_for.left)
+      (range_asked asked)
       tree_for.middle after.shelf asked.from before.output after.output written
   pub faults : after.shelf.faults ≡ tree_for.middle.faults
   pub grown : Grows tree_for.middle.calls after.shelf.calls
@@ -80,7 +82,8 @@ pub record ExtractsRange (trees : Trees) (asked : ExtractWords) (before after : 
 pub record ExtractionFails (trees : Trees) (asked : ExtractWords) (before after : Objects)
     (unwritten : Type 0) (error : ExtractError) : Type 0 where
   pub tree_for : HasTreeFor trees asked before after
-  pub ended : ExtractEnds (extract_asked asked tree_for.given tree_for.tree tree_for.left) (range_asked asked)
+  pub ended : ExtractEnds (extract_asked asked tree_for.given tree_for.tree tree_for.left)
+      (range_asked asked)
       tree_for.middle after.shelf asked.from before.output after.output unwritten error
   pub grown : Grows tree_for.middle.calls after.shelf.calls
   pub reads : ReadsOfFile asked tree_for.middle after.shelf

@@ -2,7 +2,6 @@
 use Rattle.std.specs.Prelude.{◌≡◌, ℕ, ◌+◌, ◌≤◌, List, None, Some}
 use Rattle.std.specs.Io.KnownBytes.{Appends}
 use Rattle.esdk_args.specs.declared.request.ExtractWords.{ExtractWords}
-use Rattle.esdk_fields.specs.Bytes.{AreBytes}
 use Rattle.esdk_fields.specs.Counts.{Stayed}
 use Rattle.esdk_fields.specs.declared.contents.Content.{Content}
 use Rattle.esdk_fields.specs.declared.faults.Fault.{Fault}
@@ -11,42 +10,39 @@ use Rattle.esdk_base.specs.Streams.{ShelfState}
 use Rattle.context_codec.specs.Context.{KeyValue}
 use Rattle.header_codec.specs.Header.{HeaderValue}
 use Rattle.keyring_trait.specs.Wrapping.{WrapKeyValue}
-use Rattle.body_format.specs.declared.verdicts.Verdict.TheVariants.{Whole}
 use Rattle.message_format.specs.Judgement.{content}
-use Rattle.message_format.specs.Reading.{unlocking}
-use Rattle.esdk_batch.specs.Answering.{no_limits}
-use Rattle.esdk_decrypt.specs.Told.{Reader, judged_by}
+use Rattle.esdk_decrypt.specs.Told.{Reader, judged_by, unlocked_to}
 use Rattle.extract_core.specs.Extracted.{ByteRange, Extraction, extracted, in_range}
-use Rattle.extract_core.specs.Extract.{IsHeaderOf, most_read, most_taken}
+use Rattle.extract_core.specs.Extract.{IsHeaderOf, most_bytes_read}
 use Rattle.extract_core.specs.Laws.{BeginsWithin, EndsAsItBegins}
 use Rattle.whole_input.specs.File.{most_file}
 use Rattle.whole_input.specs.Pieces.{most_piece}
 use Rattle.esdk_report.specs.Lines.{fault_line, printed_line}
-use Rattle.esdk_report.specs.Report.{Gains}
-use Rattle.esdk_run.specs.Extract.{as_decryption, extract_reader, range_asked}
+use Rattle.esdk_report.specs.Report.{ReportGains}
+use Rattle.esdk_run.specs.Extract.{as_decryption, range_asked}
 use Rattle.esdk_run.specs.Objects.{Objects}
-use Rattle.esdk_run.specs.Told.{IfNoneFailedBefore, IsDoneOrMemory, Reads}
+use Rattle.esdk_run.specs.Told.{HasPairsAndKeys}
 use Rattle.esdk_run.specs.Trees.{Trees}
 
 -- what this reader extracts of a message
 abbrev pub extracted_by : Reader → List ℕ → ByteRange → Extraction
 extracted_by reader bytes range = extracted bytes reader.settings
-    (unlocking bytes reader.settings reader.given reader.required reader.keys) range
+    (unlocked_to reader bytes) range
 
 -- The shelf gave no more bytes than a keyring file may have, one piece, and what this reader reads
 -- of this message: the header, up to a piece behind it, and the slots that are taken.
 abbrev pub ReadsTaken : Reader → List ℕ → ByteRange → ShelfState → ShelfState → Type 0
 ReadsTaken reader bytes range old new = new.given ≤ old.given + most_file + most_piece
-    + most_taken bytes reader.settings
-    (unlocking bytes reader.settings reader.given reader.required reader.keys) range
+    + most_bytes_read bytes reader.settings
+    (unlocked_to reader bytes) range
 
 -- ---- what is written
 
 -- The words give these pairs, a tree is given back that tells these keys, and the shelf tells that
 -- the message's file holds these bytes.
-pub record ReadsFile (trees : Trees) (asked : ExtractWords) (before : Objects)
+pub record ReadsMessageFile (trees : Trees) (asked : ExtractWords) (before : Objects)
     (given : List KeyValue) (keys : List WrapKeyValue) (bytes : List ℕ) : Type 0 where
-  pub reads : Reads trees (as_decryption asked) given keys
+  pub reads : HasPairsAndKeys trees (as_decryption asked) given keys
   pub held : Holds before.shelf.files asked.from bytes
 
 -- The output gained what is extracted, which no fault ends, and no more bytes were read than
@@ -66,40 +62,21 @@ pub record NamesExtractFault (reader : Reader) (asked : ExtractWords) (bytes : L
   pub cause : (extracted_by reader bytes (range_asked asked)).fault ≡ Some fault
   pub gained : Appends before.output.written after.output.written
       (extracted_by reader bytes (range_asked asked)).part
-  pub line : Gains (printed_line (fault_line fault)) before.report after.report
+  pub line : ReportGains (printed_line (fault_line fault)) before.report after.report
   pub read : ReadsTaken reader bytes (range_asked asked) before.shelf after.shelf
 
--- `extract`, at status 0 and 1, writes what is extracted of the file, and names the fault that ends
--- it; it reads no more bytes than `ReadsTaken` says.
-abbrev pub SaysWhatItExtracts : Trees → ExtractWords → Objects → Objects → ℕ → Type 0
-SaysWhatItExtracts trees asked before after code =
-    (given : List KeyValue) (keys : List WrapKeyValue) (bytes : List ℕ)
-    → ReadsFile trees asked before given keys bytes
-    → IfNoneFailedBefore trees asked.keyring before.shelf
-    ((code ≡ 0 → GainsRange (extract_reader asked given keys) asked bytes before after)
-    × (code ≡ 1 → NamesExtractFault (extract_reader asked given keys) asked bytes before after))
-
 -- No count of faults of the shelf, the output and the report rose, and none is at its end.
-pub record NothingFailsOf (before after : Objects) : Type 0 where
+pub record ShelfAndOutputsDontFail (before after : Objects) : Type 0 where
   pub reading : Stayed before.shelf.faults after.shelf.faults
   pub writing : Stayed before.output.faults after.output.faults
   pub reporting : Stayed before.report.faults after.report.faults
-
--- A range without a fault is extracted, unless memory runs out or an object fails.
-abbrev pub ExtractsSoundRanges : Trees → ExtractWords → Objects → Objects → ℕ → Type 0
-ExtractsSoundRanges trees asked before after code =
-    (given : List KeyValue) (keys : List WrapKeyValue) (bytes : List ℕ)
-    → ReadsFile trees asked before given keys bytes
-    → (extracted_by (extract_reader asked given keys) bytes (range_asked asked)).fault ≡ None
-    → NothingFailsOf before after
-    → IfNoneFailedBefore trees asked.keyring before.shelf (IsDoneOrMemory code)
 
 -- This fault of a range that begins behind the slots of a whole message is named.
 pub record NamesRangeBehind (content : Content) (range : ByteRange) (units : List (List ℕ))
     (before after : Objects) : Type 0 where
   pub fault : Fault
   pub ends : EndsAsItBegins content range units (Some fault)
-  pub line : Gains (printed_line (fault_line fault)) before.report after.report
+  pub line : ReportGains (printed_line (fault_line fault)) before.report after.report
 
 -- At status 0 and 1 the output gained the bytes of the range, as far as there are any, of what
 -- `decrypt` writes: none, where the range begins at their end or behind it. Status 0 comes where
@@ -117,22 +94,4 @@ pub record WritesOfContent (reader : Reader) (asked : ExtractWords) (bytes : Lis
       → NamesRangeBehind header.content (range_asked asked) (judged_by reader bytes).units
       before after
 
--- Of a whole message the bytes of the range are written, as far as there are any, of those that
--- `decrypt` writes by the same words; whatever the range.
-abbrev pub ExtractsOfContent : Trees → ExtractWords → Objects → Objects → ℕ → Type 0
-ExtractsOfContent trees asked before after code =
-    (given : List KeyValue) (keys : List WrapKeyValue) (bytes : List ℕ)
-    → ReadsFile trees asked before given keys bytes → AreBytes bytes
-    → (judged_by (extract_reader asked given keys) bytes).verdict ≡ Whole
-    → IfNoneFailedBefore trees asked.keyring before.shelf
-    (WritesOfContent (extract_reader asked given keys) asked bytes before after code)
-
 -- ---- how much is read
-
--- Where the shelf tells the message's file it gives no more bytes than a keyring file may have, one
--- piece, the header, up to a piece behind it, and the slots that the range names; however the run
--- ends. That it is no more than the slots that are taken, `SaysWhatItExtracts` says.
-abbrev pub ReadsNoMore : ExtractWords → Objects → Objects → Type 0
-ReadsNoMore asked before after = (bytes : List ℕ) → Holds before.shelf.files asked.from bytes
-    → after.shelf.given ≤ before.shelf.given + most_file + most_piece
-    + most_read no_limits (range_asked asked) bytes

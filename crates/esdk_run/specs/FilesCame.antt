@@ -1,8 +1,8 @@
 -- What `extract`, `audit` and `batch` made of the files that came, once they are done. The calls of
 -- the shelf tell what its reads gave, so that this is said of real files as of those in memory: a
--- file that is changed while it is read is what was read, and where two reads don't agree nothing is
--- said.
-use Rattle.std.specs.Prelude.{◌≡◌, ◌⊎◌, ℕ, List, ◌++◌, Some, Ok, true}
+-- file that is changed while it is read is what was read, and where two reads don't agree nothing
+-- is said.
+use Rattle.std.specs.Prelude.{◌≡◌, ℕ, List, ◌++◌, Some, Ok, true}
 use Rattle.std.specs.List.{concat}
 use Rattle.esdk_args.specs.declared.request.ExtractWords.{ExtractWords}
 use Rattle.esdk_fields.specs.Counts.{Stayed}
@@ -18,7 +18,7 @@ use Rattle.job_file.specs.Audit.{audit_of}
 use Rattle.job_file.specs.declared.job.Job.{Job}
 use Rattle.job_file.specs.JobFile.{JobFile}
 use Rattle.job_file.specs.Jobs.{jobs_of}
-use Rattle.whole_input.specs.FileReads.{Grows, IsReadAs, ReadsWhole}
+use Rattle.whole_input.specs.FileReads.{Grows, IsReadAs, ReadsWholeFile}
 use Rattle.audit_core.specs.Laws.{told_by}
 use Rattle.audit_core.specs.MessageFiles.{HaveCome}
 use Rattle.audit_core.specs.Messages.{Message}
@@ -31,7 +31,6 @@ use Rattle.esdk_decrypt.specs.Told.{Reader}
 use Rattle.esdk_run.specs.AuditTold.{ShowsOpeners}
 use Rattle.esdk_run.specs.Batch.{status_of}
 use Rattle.esdk_run.specs.Extract.{extract_reader}
-use Rattle.esdk_run.specs.ExtractTold.{GainsRange, NamesExtractFault}
 use Rattle.esdk_run.specs.Objects.{Objects}
 use Rattle.esdk_run.specs.Pairs.{context_in}
 use Rattle.esdk_run.specs.Serving.{managing_over}
@@ -59,17 +58,6 @@ pub record ReadsOfWhatCame (trees : Trees) (asked : ExtractWords) (before after 
       → IsReadAs middle.calls after.shelf.calls asked.from bytes
       → So (extract_reader asked given keys) bytes
 
--- `extract` that is done wrote what is extracted of what came.
-abbrev pub ExtractsIfDone : Trees → ExtractWords → Objects → Objects → ℕ → Type 0
-ExtractsIfDone trees asked before after code = code ≡ 0 → ReadsOfWhatCame trees asked before after
-    (λ reader bytes. GainsRange reader asked bytes before after)
-
--- `extract` that ends with a fault, at status 1, names the one of what came, and wrote what is
--- extracted before it.
-abbrev pub NamesIfFault : Trees → ExtractWords → Objects → Objects → ℕ → Type 0
-NamesIfFault trees asked before after code = code ≡ 1 → ReadsOfWhatCame trees asked before after
-    (λ reader bytes. NamesExtractFault reader asked bytes before after)
-
 -- ---- `audit`
 
 -- From this moment on the calls of the shelf read the files of these messages, and nothing else.
@@ -89,7 +77,7 @@ pub record AuditedWhatCame (trees : Trees) (name : List ℕ) (before after : Obj
   pub bytes : List ℕ
   pub file : AuditFile
   pub between : ShelfState
-  pub read : ReadsWhole name before.shelf.calls between.calls bytes
+  pub read : ReadsWholeFile name before.shelf.calls between.calls bytes
   pub is : audit_of bytes ≡ Ok file
   pub tree : KeyringMeaning
   pub left : KeyringMeaning
@@ -100,11 +88,6 @@ pub record AuditedWhatCame (trees : Trees) (name : List ℕ) (before after : Obj
   pub leaves_are : trees.leaves keyring.file ≡ Ok meanings
   pub shown : (leaves : List (List WrapKeyValue)) → told_by meanings ≡ Some leaves
       → Stayed tree.faults left.faults → ShowsWhatCame file leaves middle before after code
-
--- `audit` that is done, at status 0 or 7, said what came.
-abbrev pub AuditsIfDone : Trees → (name : List ℕ) → Objects → Objects → ℕ → Type 0
-AuditsIfDone trees name before after code =
-    (code ≡ 0) ⊎ (code ≡ 7) → AuditedWhatCame trees name before after code
 
 -- ---- `batch`
 
@@ -128,7 +111,7 @@ pub record BatchedWhatCame (trees : Trees) (name : List ℕ) (before after : Obj
   pub bytes : List ℕ
   pub file : JobFile
   pub between : ShelfState
-  pub read : ReadsWhole name before.shelf.calls between.calls bytes
+  pub read : ReadsWholeFile name before.shelf.calls between.calls bytes
   pub is : jobs_of bytes name ≡ Ok file
   pub tree : KeyringMeaning
   pub left : KeyringMeaning
@@ -140,8 +123,3 @@ pub record BatchedWhatCame (trees : Trees) (name : List ℕ) (before after : Obj
   pub finished : AreFinished file.jobs middle after.shelf lines
   pub gained : Appends before.output.written after.output.written (report_of lines)
   pub status : code ≡ status_of lines
-
--- `batch` that is reported, at status 0 or 7, ran the jobs that came.
-abbrev pub BatchesIfRun : Trees → (name : List ℕ) → Objects → Objects → ℕ → Type 0
-BatchesIfRun trees name before after code =
-    (code ≡ 0) ⊎ (code ≡ 7) → BatchedWhatCame trees name before after code

@@ -12,7 +12,8 @@ use Rattle.esdk_report.specs.declared.failure.Failure.{Failure}
 use Rattle.esdk_report.specs.declared.failure.Failure.TheVariants as failures
 use Rattle.esdk_run.specs.FileReading.{FileFails, FileIs}
 
--- the value in version 2 of a keyring file that has these bytes, with the key retired that the words name
+-- the value in version 2 of a keyring file that has these bytes, with the key retired that the
+-- words name
 abbrev pub value_asked : MigrateWords → List ℕ → Result Data FileRefusal
 value_asked asked bytes = migration asked.retire bytes
 
@@ -29,18 +30,24 @@ pub record IsMigrated (asked : MigrateWords) (old new : ShelfState) (text : List
   pub file : IsFileOf text value
 
 -- The output gained the text of the keyring file in version 2.
-pub record WritesMigrated (asked : MigrateWords) (old new : ShelfState) (before after : SinkState) : Type 0 where
+pub record WritesMigrated (asked : MigrateWords) (old new : ShelfState) (before after : SinkState)
+    : Type 0 where
   pub text : List ℕ
   pub is : IsMigrated asked old new text
   pub gained : Appends before.written after.written text
 
 -- The output failed, and gained a front of that text.
-pub record WritesFront (asked : MigrateWords) (old new : ShelfState) (before after : SinkState) : Type 0 where
+pub record MigrateWritesFront (asked : MigrateWords) (old new : ShelfState)
+    (before after : SinkState) : Type 0 where
   pub text : List ℕ
   pub is : IsMigrated asked old new text
   pub failed : SinkFails before after text
 
--- Why the text wasn't written. `unwritten` says that the output is as before, as it is but where it failed. Want of memory is as `FileLacksMemory` says.
-abbrev pub MigrateFails : MigrateWords → ShelfState → ShelfState → SinkState → SinkState → Type 0 → Failure → Type 0
-MigrateFails asked old new before after unwritten (failures.Outside outsides.SinkFault) = WritesFront asked old new before after
-MigrateFails asked old new before after unwritten failure = FileFails (value_asked asked) old new asked.keyring failure × unwritten
+-- Why the text wasn't written. `unwritten` says that the output is as before, as it is but where it
+-- failed. Want of memory is as `FileLacksMemory` says.
+abbrev pub MigrateFails : MigrateWords → ShelfState → ShelfState → SinkState → SinkState → Type 0
+    → Failure → Type 0
+MigrateFails asked old new before after unwritten (failures.Outside outsides.SinkFault) =
+    MigrateWritesFront asked old new before after
+MigrateFails asked old new before after unwritten failure =
+    FileFails (value_asked asked) old new asked.keyring failure × unwritten

@@ -24,8 +24,8 @@ use Rattle.esdk_run.specs.Trees.{HasNoTree, HasTree, IsLawful, IsUntouched, Tree
 use Rattle.esdk_run.specs.Trees.{TreeLacksMemory, Trees}
 
 -- the limit that the words set, and whether they allow a message without a commitment
-abbrev pub limits_of : ResealWords → Settings
-limits_of asked = record
+abbrev pub reseal_settings : ResealWords → Settings
+reseal_settings asked = record
     { max_keys = None; max_unit = asked.max_unit; uncommitted = asked.uncommitted }
 
 -- ---- what the second tree gives
@@ -48,7 +48,7 @@ reseal_asked asked given tree left second = record {
       finds_none =
           TreeFindsNone (required_in asked.pairs) tree left;
     };
-    settings = limits_of asked;
+    settings = reseal_settings asked;
     given = given;
   };
   wraps = second.wraps;
@@ -105,8 +105,8 @@ pub record HasBoth (trees : Trees) (asked : ResealWords) (before after : Objects
 
 -- the whole input is a whole message to the first tree, with this whole context, and the output
 -- gained the new message of its content
-abbrev pub Reseals : Trees → ResealWords → Objects → Objects → List KeyValue → Type 0
-Reseals trees asked before after context =
+abbrev pub ResealsAs : Trees → ResealWords → Objects → Objects → List KeyValue → Type 0
+ResealsAs trees asked before after context =
     HasBoth trees asked before after
     (λ run unasked. ResealsInput run before.input after.input before.output after.output
     before.entropy after.entropy context)

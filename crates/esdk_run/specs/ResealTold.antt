@@ -1,6 +1,6 @@
 -- What `reseal` says over the tree that it gives back, where the shelf tells the second keyring
 -- file.
-use Rattle.std.specs.Prelude.{◌≡◌, ℕ, ◌^◌, ◌<◌, ◌≤◌, List, [], length}
+use Rattle.std.specs.Prelude.{◌≡◌, ℕ, List, [], length}
 use Rattle.std.specs.Prelude.{None, Some, Ok}
 use Rattle.std.specs.Io.KnownBytes.{Appends}
 use Rattle.esdk_args.specs.declared.request.ResealWords.{ResealWords}
@@ -17,16 +17,16 @@ use Rattle.message_format.specs.Judgement.{content}
 use Rattle.esdk_encrypt.specs.Encrypt.{Drew}
 use Rattle.esdk_encrypt.specs.Told.{Writer, message_by}
 use Rattle.esdk_decrypt.specs.Decrypt.{fault_at_end}
-use Rattle.esdk_decrypt.specs.Laws.{IsWholeInput, IsWrittenFor, Written, written_message}
-use Rattle.esdk_decrypt.specs.Told.{Reader, judged_by}
-use Rattle.reseal_core.specs.Laws.{HasRoom, IsNoMessage, IsRotated, front_by, unlocked_to}
+use Rattle.esdk_decrypt.specs.Laws.{IsWholeInput, Written}
+use Rattle.esdk_decrypt.specs.Told.{Reader, judged_by, unlocked_to}
+use Rattle.reseal_core.specs.Laws.{HasRoom, IsNoMessage, IsRotated, front_by}
 use Rattle.esdk_report.specs.Lines.{fault_line, printed_line}
-use Rattle.esdk_report.specs.Report.{Gains, ShowsContext}
+use Rattle.esdk_report.specs.Report.{ReportGains, ShowsContext}
 use Rattle.esdk_run.specs.Giving.{refusal_over}
 use Rattle.esdk_run.specs.Objects.{Objects}
 use Rattle.esdk_run.specs.Pairs.{context_in, required_in}
-use Rattle.esdk_run.specs.Reseal.{limits_of}
-use Rattle.esdk_run.specs.Told.{HoldsTree, IfNoneFailedBefore, IsDoneOrMemory, NothingFails}
+use Rattle.esdk_run.specs.Reseal.{reseal_settings}
+use Rattle.esdk_run.specs.Told.{HoldsTree}
 use Rattle.esdk_run.specs.Trees.{Trees}
 
 -- ---- who reads, and who writes
@@ -35,7 +35,7 @@ use Rattle.esdk_run.specs.Trees.{Trees}
 abbrev pub reseal_reader : ResealWords → List KeyValue → List WrapKeyValue → Reader
 reseal_reader asked given keys = record {
   keys = keys;
-  settings = limits_of asked;
+  settings = reseal_settings asked;
   given = given;
   required = required_in asked.pairs;
 }
@@ -106,22 +106,7 @@ pub record NamesResealFault (reader : Reader) (writer : List KeyValue → List K
       (front_by writer drawn (unlocked_to reader bytes) (judged_by reader bytes).unlocked
       (content (judged_by reader bytes)))
       size (length (active others))
-  pub line : Gains (printed_line (fault_line fault)) before.report after.report
-
--- `reseal` says of the input what the judgement of all its bytes is, however little of it was
--- taken, and writes what that releases under the second tree's keys: all of it, or all but the last
--- frame.
-abbrev pub SaysWhatItReseals : Trees → ResealWords → Objects → Objects → ℕ → Type 0
-SaysWhatItReseals trees asked before after code =
-    (given : List KeyValue) (keys : List WrapKeyValue) (bytes : List ℕ)
-    (both : ReadsBoth trees asked before given keys) → before.input.left ≡ Some bytes
-    → IfNoneFailedBefore trees asked.keyring before.shelf
-    ((code ≡ 0 → OfItsKeys both.second
-    (λ others. ShowsResealed (reseal_reader asked given keys) (reseal_writer asked others) others
-    bytes before after code))
-    × (code ≡ 1 → OfItsKeys both.second
-    (λ others. NamesResealFault (reseal_reader asked given keys) (reseal_writer asked others) others
-    asked.frame bytes before after)))
+  pub line : ReportGains (printed_line (fault_line fault)) before.report after.report
 
 -- ---- what is resealed
 
@@ -138,18 +123,9 @@ pub record CanBeResealed (reader : Reader) (second : KeyringMeaning) (size : ℕ
   pub room : HasRoom size (content (judged_by reader bytes))
 
 -- Nor does a count of faults of the shelf or the entropy rise, and none is at its end.
-pub record NothingElseFails (before after : Objects) : Type 0 where
+pub record ShelfAndEntropyDontFail (before after : Objects) : Type 0 where
   pub files : Stayed before.shelf.faults after.shelf.faults
   pub drawing : Stayed before.entropy.faults after.entropy.faults
-
--- An input that is a whole message is resealed, unless memory runs out or an object fails.
-abbrev pub ResealsWholeMessages : Trees → ResealWords → Objects → Objects → ℕ → Type 0
-ResealsWholeMessages trees asked before after code =
-    (given : List KeyValue) (keys : List WrapKeyValue) (bytes : List ℕ)
-    (both : ReadsBoth trees asked before given keys)
-    → CanBeResealed (reseal_reader asked given keys) both.second asked.frame before.input bytes
-    → NothingFails before after → NothingElseFails before after
-    → IfNoneFailedBefore trees asked.keyring before.shelf (IsDoneOrMemory code)
 
 -- ---- rotation
 
@@ -160,16 +136,3 @@ pub record ShowsRotated (m : Written) (others : List WrapKeyValue) (size : ℕ)
     (before after : Objects) (code : ℕ) : Type 0 where
   pub rotated : IsRotated m others [] size before.output after.output
   pub shown : ShowsContext m.context code before.report after.report
-
--- A message that was written for one of the first tree's keys and for the pairs is resealed to one
--- that is read under any tree with one of the second tree's keys: its text and its whole context.
--- Four bytes hold the new frame length.
-abbrev pub RotatesWhatIsWritten : Trees → ResealWords → Objects → Objects → ℕ → Type 0
-RotatesWhatIsWritten trees asked before after code =
-    (given : List KeyValue) (keys writers : List WrapKeyValue) (m : Written)
-    (both : ReadsBoth trees asked before given keys)
-    → IsWrittenFor (reseal_reader asked given keys) writers m
-    → 1 ≤ asked.frame → asked.frame < 2 ^ 32 → before.input.left ≡ Some (written_message m)
-    → IfNoneFailedBefore trees asked.keyring before.shelf
-    (code ≡ 0 → OfItsKeys both.second
-    (λ others. ShowsRotated m others asked.frame before after code))

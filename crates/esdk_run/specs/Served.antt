@@ -1,5 +1,6 @@
 -- What a batch's report shows of the limits of its cache, and what a batch and a generation leave.
-use Rattle.std.specs.Prelude.{◌≡◌, ◌≢◌, ◌⊎◌, ◌≤◌, ℕ, Bool, false, ◌&&◌, List, length, zip, sum_by, All, Option, Some, None, IfSome, Ok, if◌then◌else◌}
+use Rattle.std.specs.Prelude.{◌≡◌, ◌≢◌, ◌≤◌, ℕ, Bool, false, ◌&&◌, List, length, zip, sum_by, All}
+use Rattle.std.specs.Prelude.{Option, Some, None, IfSome, Ok, if◌then◌else◌}
 use Rattle.std.specs.Io.KnownBytes.{Appends}
 use Rattle.esdk_base.specs.Receiver.{SinkFails}
 use Rattle.esdk_base.specs.Shelf.{Files, Holds}
@@ -18,7 +19,7 @@ use Rattle.batch_report.specs.declared.job_lines.JobLine.{JobLine}
 use Rattle.batch_report.specs.BatchReport.{report_of}
 use Rattle.esdk_batch.specs.Batch.{length_of}
 use Rattle.esdk_gen.specs.Generator.{gen_line}
-use Rattle.esdk_run.specs.Batch.{ChangesOnlyWritten, JobsAre, jobs_in}
+use Rattle.esdk_run.specs.Batch.{JobsAre, jobs_in}
 use Rattle.esdk_run.specs.Generate.{WritesLine}
 use Rattle.esdk_run.specs.Objects.{Objects}
 use Rattle.esdk_run.specs.Told.{HoldsTree, IsDoneOrMemory}
@@ -41,18 +42,16 @@ seals_shown n jobs lines = sum_by (λ pair. if seals_under n pair.1 then 1 else 
 
 abbrev pub bytes_shown : ℕ → List Job → List JobLine → ℕ
 bytes_shown n jobs lines =
-    sum_by (λ pair. if seals_under n pair.1 then use_bytes (length_of pair.0.work) else 0) (zip jobs lines)
-
--- the job's materials, if there were some, were served directly
-abbrev pub IsServedDirectly : JobLine → Type 0
-IsServedDirectly line = IfSome line.served (λ served. served ≡ Direct)
+    sum_by (λ pair. if seals_under n pair.1 then use_bytes (length_of pair.0.work) else 0)
+    (zip jobs lines)
 
 -- Without a cache all materials were served directly; with one, the encrypt jobs that show one
 -- number are no more than the limit, and of no more bytes.
 abbrev pub AreServedWithin : Option LimitsValue → List Job → List JobLine → Type 0
-AreServedWithin None jobs lines = All IsServedDirectly lines
+AreServedWithin None jobs lines = All (λ line. IfSome line.served (λ served. served ≡ Direct)) lines
 AreServedWithin (Some limits) jobs lines =
-    (n : ℕ) → (seals_shown n jobs lines ≤ limits.messages) × (bytes_shown n jobs lines ≤ limits.bytes)
+    (n : ℕ) → (seals_shown n jobs lines ≤ limits.messages)
+    × (bytes_shown n jobs lines ≤ limits.bytes)
 
 -- The output gained a report of the jobs of the file of this name, one line for each, and they are
 -- served within the limits that the file sets.
@@ -65,40 +64,26 @@ pub record ShowsLimits (name : List ℕ) (before after : Objects) : Type 0 where
   pub each : length lines ≡ length file.jobs
   pub within : AreServedWithin file.cache file.jobs lines
 
--- so it is, where the batch was run and reported
-abbrev pub KeepsLimits : List ℕ → Objects → Objects → ℕ → Type 0
-KeepsLimits name before after code = (code ≡ 0) ⊎ (code ≡ 7) → ShowsLimits name before after
-
 -- ---- the files
-
--- The shelf keeps the files that it tells, or no others of them changed but those that the jobs of
--- the file of this name write. So it is however a batch ends.
-abbrev pub KeepsOtherFiles : List ℕ → ShelfState → ShelfState → Type 0
-KeepsOtherFiles name old new = (new.files ≡ old.files) ⊎ ChangesOnlyWritten name old new
 
 -- ---- a batch that must be run
 
 -- The shelf tells that the file of this name holds these jobs, and that the keyring file that they
 -- name holds this tree.
-pub record HoldsJobs (trees : Trees) (files : Option Files) (name : List ℕ) (file : JobFile) (tree : KeyringMeaning) : Type 0 where
+pub record HoldsJobs (trees : Trees) (files : Option Files) (name : List ℕ) (file : JobFile)
+    (tree : KeyringMeaning) : Type 0 where
   pub bytes : List ℕ
   pub holds : Holds files name bytes
   pub few : length bytes ≤ most_file
   pub is : jobs_in name bytes ≡ Ok file
   pub keyring : HoldsTree trees files file.keyring tree
 
--- Jobs that the shelf tells are run and reported, unless memory runs out, the shelf fails or the
--- output does.
-abbrev pub RunsWhatIsHeld : Trees → List ℕ → ShelfState → ShelfState → SinkState → SinkState → ℕ → Type 0
-RunsWhatIsHeld trees name old new before after code =
-    (file : JobFile) (tree : KeyringMeaning) → HoldsJobs trees old.files name file tree
-    → Stayed old.faults new.faults → Stayed before.faults after.faults → IsDoneOrMemory code ⊎ (code ≡ 7)
-
 -- ---- `gen`
 
 -- The output gained the line where all is done, and else a front of it where the output failed, or
 -- nothing. All is done unless the output fails or memory runs out.
-pub record Generates (seed size : ℕ) (before after : SinkState) (unwritten : Type 0) (code : ℕ) : Type 0 where
+pub record Generates (seed size : ℕ) (before after : SinkState) (unwritten : Type 0) (code : ℕ)
+    : Type 0 where
   pub done : code ≡ 0 → WritesLine seed size before after
   pub failed : code ≡ 4 → SinkFails before after (gen_line seed size)
   pub otherwise : code ≢ 0 → code ≢ 4 → unwritten

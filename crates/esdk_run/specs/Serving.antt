@@ -1,5 +1,6 @@
 -- What the manager of a batch may say, by the tree that its keyring file is read as.
-use Rattle.std.specs.Prelude.{◌≡◌, ◌≤◌, ℕ, List, [], length, take, drop, true, ⊤, Option, Some, None, IfSome}
+use Rattle.std.specs.Prelude.{◌≡◌, ◌≤◌, ℕ, List, [], length, take, drop, true, ⊤, Option, Some}
+use Rattle.std.specs.Prelude.{None, IfSome}
 use Rattle.esdk_fields.specs.Counts.{Rose, Stayed}
 use Rattle.esdk_fields.specs.declared.faults.Fault.TheVariants.{NoKeyOpens}
 use Rattle.context_codec.specs.Parts.{only_given, whole_of}
@@ -13,7 +14,7 @@ use Rattle.keyring_trait.specs.Requests.{DecRequestValue, EncRequestValue}
 use Rattle.keyring_trait.specs.Unlocking.{pair_offence}
 use Rattle.keyring_trait.specs.Wrapping.{ivs_of, made}
 use Rattle.cmm_caching.specs.Limits.{LimitsValue}
-use Rattle.esdk_encrypt.specs.Told.{NoneFor}
+use Rattle.esdk_encrypt.specs.Told.{NoneForRequest}
 use Rattle.keyring_trait.specs.Saying.{Saying}
 use Rattle.esdk_run.specs.Decrypt.{OpensNone}
 use Rattle.esdk_run.specs.Giving.{refusal_over}
@@ -29,7 +30,8 @@ IsSteadyIfCached (Some limits) tree = tree.steady ≡ true
 -- the entries are the tree's wraps of the data key, in order, with these bytes as IVs
 abbrev pub WrappedBy : KeyringMeaning → List ℕ → EncMaterialsValue → Type 0
 WrappedBy tree ivs materials =
-    IfSome tree.keys (λ keys. materials.entries ≡ made keys materials.context materials.key (ivs_of tree.wraps ivs))
+    IfSome tree.keys (λ keys. materials.entries ≡ made keys materials.context materials.key
+    (ivs_of tree.wraps ivs))
 
 -- What isn't served from the cache is made of these random bytes: the first 32 are the data key;
 -- and the bytes behind are the IVs, where the tree tells its keys, and is steady if there is a
@@ -96,7 +98,8 @@ abbrev pub managing_over : Option LimitsValue → KeyringMeaning → KeyringMean
 managing_over cache tree left = record {
   wraps = tree.wraps;
   gives = λ wish now. TreeServes cache tree wish;
-  gives_none = λ wish error. NoneFor (refusal_over wish.context tree) tree.faults left.faults error;
+  gives_none =
+      λ wish error. NoneForRequest (refusal_over wish.context tree) tree.faults left.faults error;
   finds = λ request now. TreeServesHeader cache tree left request;
   finds_none = TreeServesNone cache tree left;
 }

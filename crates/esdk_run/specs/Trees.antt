@@ -1,5 +1,6 @@
 -- The keyring tree that a keyring file on a shelf is read as, and what a run leaves of it.
-use Rattle.std.specs.Prelude.{◌≡◌, ◌⊎◌, ◌≤◌, ℕ, List, [], ◌∷◌, length, true, Option, option_map, Some, None, IfSome, Result, Ok, Err}
+use Rattle.std.specs.Prelude.{◌≡◌, ◌⊎◌, ◌≤◌, ℕ, List, [], ◌∷◌, length, true, Option, option_map}
+use Rattle.std.specs.Prelude.{Some, None, IfSome, Result, Ok, Err}
 use Rattle.esdk_fields.specs.Counts.{Stayed}
 use Rattle.esdk_base.specs.Streams.{ShelfState}
 use Rattle.esdk_fields.specs.declared.refusals.FileRefusal.{FileRefusal}
@@ -19,7 +20,8 @@ use Rattle.esdk_report.specs.declared.failure.Failure.TheVariants as failures
 use Rattle.esdk_run.specs.FileReading.{FileFails, FileIs}
 use Rattle.esdk_run.specs.Pairs.{GivesContext}
 
--- how a file's bytes are read: as one tree, of which what it means to its callers stands alone in a list; or as a refusal
+-- how a file's bytes are read: as one tree, of which what it means to its callers stands alone in a
+-- list; or as a refusal
 abbrev pub TreeReading : Type 0
 TreeReading = List ℕ → Result (List KeyringMeaning) FileRefusal
 
@@ -34,11 +36,13 @@ pub record Trees : Type 0 where
 -- ---- what a file is
 
 -- the file was read without a failure, and is read as this tree
-abbrev pub TreeIs : TreeReading → ShelfState → ShelfState → (name : List ℕ) → KeyringMeaning → Type 0
+abbrev pub TreeIs : TreeReading → ShelfState → ShelfState → (name : List ℕ) → KeyringMeaning
+    → Type 0
 TreeIs read old new name tree = FileIs read old new name (tree ∷ [])
 
 -- The same, and its leaves mean this.
-pub record TreeHas (trees : Trees) (old new : ShelfState) (name : List ℕ) (tree : KeyringMeaning) (leaves : List KeyringMeaning) : Type 0 where
+pub record TreeHas (trees : Trees) (old new : ShelfState) (name : List ℕ) (tree : KeyringMeaning)
+    (leaves : List KeyringMeaning) : Type 0 where
   pub bytes : List ℕ
   pub file : IsFile old new name bytes
   pub is : trees.read bytes ≡ Ok (tree ∷ [])
@@ -46,12 +50,14 @@ pub record TreeHas (trees : Trees) (old new : ShelfState) (name : List ℕ) (tre
 
 -- ---- what a tree keeps
 
--- What every tree keeps: as many of the keys that it tells wrap as it makes entries, and it makes at most 64.
+-- What every tree keeps: as many of the keys that it tells wrap as it makes entries, and it makes
+-- at most 64.
 pub record IsLawful (tree : KeyringMeaning) : Type 0 where
   pub told : IfSome tree.keys (λ keys. length (active keys) ≡ tree.wraps)
   pub few : tree.wraps ≤ 64
 
--- What a run leaves of a tree: all that it tells and means, but for the count of its failures. That never falls, and of a steady tree it stays.
+-- What a run leaves of a tree: all that it tells and means, but for the count of its failures. That
+-- never falls, and of a steady tree it stays.
 pub record TreeGoes (old new : KeyringMeaning) : Type 0 where
   pub keys : new.keys ≡ old.keys
   pub wraps : new.wraps ≡ old.wraps
@@ -62,8 +68,10 @@ pub record TreeGoes (old new : KeyringMeaning) : Type 0 where
 
 -- ---- what a run has
 
--- The words give a context, the keyring file is read as a tree, and what is left of that is given back.
-pub record HasTree (trees : Trees) (words : List PairWord) (name : List ℕ) (old new : ShelfState) (context : List KeyValue) (tree left : KeyringMeaning) : Type 0 where
+-- The words give a context, the keyring file is read as a tree, and what is left of that is given
+-- back.
+pub record HasTree (trees : Trees) (words : List PairWord) (name : List ℕ) (old new : ShelfState)
+    (context : List KeyValue) (tree left : KeyringMeaning) : Type 0 where
   pub given : GivesContext words context
   pub file : TreeIs trees.read old new name tree
   pub lawful : IsLawful tree
@@ -71,7 +79,8 @@ pub record HasTree (trees : Trees) (words : List PairWord) (name : List ℕ) (ol
   pub goes : TreeGoes tree left
 
 -- The words give a context, and the keyring file gives no tree for this reason.
-pub record HasNoTree (trees : Trees) (words : List PairWord) (name : List ℕ) (old new : ShelfState) (failure : Failure) : Type 0 where
+pub record HasNoTree (trees : Trees) (words : List PairWord) (name : List ℕ) (old new : ShelfState)
+    (failure : Failure) : Type 0 where
   pub context : List KeyValue
   pub given : GivesContext words context
   pub cause : FileFails trees.read old new name failure
@@ -83,14 +92,16 @@ abbrev pub TreeLacksMemory : Trees → List PairWord → (name : List ℕ) → (
 TreeLacksMemory trees words name old new unread =
     unread ⊎ HasNoTree trees words name old new failures.Memory
 
--- What a run leaves that ends before it has a tree: these things are as before, and no tree is given back.
+-- What a run leaves that ends before it has a tree: these things are as before, and no tree is
+-- given back.
 pub record IsUntouched (trees : Trees) (unchanged : Type 0) : Type 0 where
   pub same : unchanged
   pub none : trees.kept ≡ None
 
 -- ---- the trees of a run that was handed these plugs
 
-abbrev pub means : {P : Type 0} → (P → KeyringMeaning) → Result (Forest P) FileRefusal → Result (List KeyringMeaning) FileRefusal
+abbrev pub means : {P : Type 0} → (P → KeyringMeaning) → Result (Forest P) FileRefusal
+    → Result (List KeyringMeaning) FileRefusal
 means meaning (Ok forest) = Ok (meanings meaning forest)
 means meaning (Err refusal) = Err refusal
 
@@ -99,7 +110,8 @@ abbrev pub reading : {P : Type 0} → (P → KeyringMeaning) → List (Plug P) �
 reading meaning plugs = λ bytes. means meaning (tree_of (wraps_of meaning) bytes plugs)
 
 -- what the leaves of such a tree mean
-abbrev pub leaves_mean : {P : Type 0} → (P → KeyringMeaning) → Result (Forest P) FileRefusal → Result (List KeyringMeaning) FileRefusal
+abbrev pub leaves_mean : {P : Type 0} → (P → KeyringMeaning) → Result (Forest P) FileRefusal
+    → Result (List KeyringMeaning) FileRefusal
 leaves_mean meaning (Ok forest) = Ok (leaves meaning forest)
 leaves_mean meaning (Err refusal) = Err refusal
 

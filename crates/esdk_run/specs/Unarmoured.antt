@@ -1,6 +1,7 @@
 -- An input that is read as armour text, where the words ask for that: what it gives, and how a
 -- command ends that reads it so.
-use Rattle.std.specs.Prelude.{◌≡◌, ◌⊎◌, ℕ, ◌<◌, ◌≤◌, ◌^◌, Bool, true, false, List, [], ◌++◌, length, Option}
+use Rattle.std.specs.Prelude.{◌≡◌, ◌⊎◌, ℕ, ◌<◌, ◌≤◌, ◌^◌, Bool, true, false, List, [], ◌++◌, length}
+use Rattle.std.specs.Prelude.{Option}
 use Rattle.std.specs.Option.{option_map}
 use Rattle.esdk_fields.specs.Counts.{Rose, Stayed}
 use Rattle.esdk_fields.specs.declared.faults.Fault.TheVariants.{BadArmour, Truncated}
@@ -24,8 +25,8 @@ outlook_of false bytes = record { bytes = bytes; end = Whole }
 -- ---- what was read
 
 -- what a source gives that tells this text
-abbrev pub given_by : Option (List ℕ) → Option (List ℕ)
-given_by left = option_map (λ text. (text_outlook text).bytes) left
+abbrev pub given_by_text : Option (List ℕ) → Option (List ℕ)
+given_by_text left = option_map (λ text. (text_outlook text).bytes) left
 
 -- all bytes that the text gives were read
 abbrev pub AllRead : (text read : List ℕ) → Type 0
@@ -47,7 +48,7 @@ pub record ReadsText (Reach : List ℕ → List ℕ → Type 0) (input taken : S
   pub few : length text ≤ 2 ^ 62
   pub seen : SourceState
   pub read : SourceState
-  pub gives : seen.left ≡ given_by input.left
+  pub gives : seen.left ≡ given_by_text input.left
   pub begins : seen.given ≡ 0
   pub none : seen.came ≡ []
   pub rest : List ℕ
@@ -66,8 +67,8 @@ ReadsInput false input taken So = So input taken
 -- ---- how the text ended
 
 -- the text that came ends so, whatever follows it; nothing does where its end was seen
-abbrev pub EndsSo : (taken : SourceState) → (text : List ℕ) → TextEnd → Type 0
-EndsSo taken text end = (more : List ℕ) → (taken.ended ≡ true → more ≡ [])
+abbrev pub TextEndsSo : (taken : SourceState) → (text : List ℕ) → TextEnd → Type 0
+TextEndsSo taken text end = (more : List ℕ) → (taken.ended ≡ true → more ≡ [])
     → (text_outlook (text ++ more)).end ≡ end
 
 -- The text that came ends so, and so does the one that is told; where it's whole, its end was seen.
@@ -75,7 +76,7 @@ EndsSo taken text end = (more : List ℕ) → (taken.ended ≡ true → more ≡
 pub record EndsText (input taken : SourceState) (end : TextEnd) : Type 0 where
   pub text : List ℕ
   pub came : Came input taken text
-  pub ends : EndsSo taken text end
+  pub ends : TextEndsSo taken text end
   pub seen : end ≡ Whole → taken.ended ≡ true
   pub told : OnTold input.left (λ text. (text_outlook text).end ≡ end)
   pub faults : taken.faults ≡ input.faults
@@ -85,7 +86,7 @@ pub record IsLongText (input taken : SourceState) : Type 0 where
   pub text : List ℕ
   pub came : Came input taken text
   pub most : MostTaken input taken text
-  pub ends : EndsSo taken text TooLong
+  pub ends : TextEndsSo taken text TooLong
   pub told : OnTold input.left (λ text. (text_outlook text).end ≡ TooLong)
 
 -- what is so of a whole input; one that is read as armour also ended with whole and good groups,

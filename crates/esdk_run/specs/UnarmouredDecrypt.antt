@@ -7,7 +7,7 @@ use Rattle.message_format.specs.Judgement.{judged}
 use Rattle.whole_input.specs.Taken.{EndSeen}
 use Rattle.esdk_decrypt.specs.declared.errors.DecryptError.{DecryptError}
 use Rattle.esdk_decrypt.specs.declared.errors.DecryptError.TheVariants as errors
-use Rattle.esdk_decrypt.specs.Decrypt.{Asked, Decrypts, DecryptEnds, Releases, fault_of}
+use Rattle.esdk_decrypt.specs.Decrypt.{DecryptAsked, Decrypts, DecryptEnds, Releases, fault_of}
 use Rattle.esdk_run.specs.Failures.{decryption_failure}
 use Rattle.esdk_run.specs.Unarmoured.{InputEnds, ReadsAll}
 use Rattle.esdk_run.specs.UnarmouredEnd.{is_cut_short}
@@ -19,7 +19,7 @@ is_open (Err (errors.Fault fault)) = is_cut_short fault
 is_open (Err error) = false
 
 -- The bytes taken have no fault, and this is so of them. The output gained what they release.
-pub record ReleasesSound (asked : Asked) (input taken : SourceState) (output put : SinkState)
+pub record ReleasesSound (asked : DecryptAsked) (input taken : SourceState) (output put : SinkState)
     (cause : List ℕ → Type 0) : Type 0 where
   pub bytes : List ℕ
   pub answer : Unlocking
@@ -28,13 +28,14 @@ pub record ReleasesSound (asked : Asked) (input taken : SourceState) (output put
   pub because : cause bytes
 
 -- the whole input is a whole message, the output gained its content, and this is its whole context
-abbrev pub DecryptsAs : (armour : Bool) → Asked → SourceState → SourceState → SinkState → SinkState
+abbrev pub DecryptsAs : (armour : Bool) → DecryptAsked → SourceState → SourceState → SinkState
+    → SinkState
     → List KeyValue → Type 0
 DecryptsAs armour asked input taken output put context =
     ReadsAll armour input taken (λ seen read. Decrypts asked seen read output put context)
 
 -- Why an input wasn't decrypted, and what that left.
-abbrev pub DecryptEndsAs : (armour : Bool) → Asked → SourceState → SourceState → SinkState
+abbrev pub DecryptEndsAs : (armour : Bool) → DecryptAsked → SourceState → SourceState → SinkState
     → SinkState → Type 0 → DecryptError → Type 0
 DecryptEndsAs armour asked input taken output put unwritten error =
     InputEnds armour (decryption_failure error) input taken

@@ -1,16 +1,17 @@
 -- How the end of a text is judged behind its bytes.
-use Rattle.std.specs.Prelude.{◌≡◌, ◌⊎◌, ℕ, Bool, true, false, List, [], Option, Some, Result, Ok, Err}
+use Rattle.std.specs.Prelude.{◌≡◌, ◌⊎◌, ℕ, Bool, true, false, List, [], Option, Some, Result, Ok}
+use Rattle.std.specs.Prelude.{Err}
 use Rattle.std.specs.Option.{option_map}
 use Rattle.esdk_fields.specs.Counts.{Rose}
 use Rattle.esdk_fields.specs.declared.faults.Fault.{Fault}
 use Rattle.esdk_fields.specs.declared.faults.Fault.TheVariants.{BadArmour, Truncated}
 use Rattle.esdk_fields.specs.declared.refusals.Outside.TheVariants.{InputTooLong, SourceFault}
-use Rattle.esdk_base.specs.Streams.{SourceState}
-use Rattle.whole_input.specs.Pieces.{most_input}
+use Rattle.esdk_base.specs.Streams.{SourceState, most_input}
 use Rattle.armour_core.specs.declared.reader.ArmourReader.{ArmourReader}
 use Rattle.armour_core.specs.declared.text_end.TextEnd.{TextEnd}
 use Rattle.armour_core.specs.declared.text_end.TextEnd.TheVariants.{Bad, TooLong, Whole}
-use Rattle.armour_core.specs.ReaderOutlook.{Awaits, FailsAs, IsOver, gives, reader_outlook, told_end}
+use Rattle.armour_core.specs.ReaderOutlook.{Awaits, FailsAs, TextIsOver, gives, reader_outlook}
+use Rattle.armour_core.specs.ReaderOutlook.{told_end}
 use Rattle.esdk_decrypt.specs.declared.errors.DecryptError.{DecryptError}
 use Rattle.esdk_decrypt.specs.declared.errors.DecryptError.TheVariants as errors
 
@@ -24,7 +25,7 @@ abbrev pub left_of : SourceState → ArmourReader → Option (List ℕ)
 left_of input r = option_map (λ text. (reader_outlook r text).bytes) input.left
 
 -- The reader saw that the text ends so, as it does where it is told, and no read failed.
-pub record SeesEnd (before now : SourceState) (old new : ArmourReader)
+pub record SeesTextEnd (before now : SourceState) (old new : ArmourReader)
     (end : TextEnd) : Type 0 where
   pub ending : new.ending ≡ Some end
   pub told : (told : TextEnd) → told_end before old ≡ Some told → told ≡ end
@@ -35,19 +36,19 @@ abbrev pub IsReadOut : ArmourReader → Type 0
 IsReadOut r = gives r [] ≡ 0
 
 -- no bytes are left, where the text is told, or it was seen how it ends
-abbrev pub IsBehind : SourceState → ArmourReader → Type 0
-IsBehind before old = (left_of before old ≡ Some []) ⊎ IsOver old
+abbrev pub TextIsBehind : SourceState → ArmourReader → Type 0
+TextIsBehind before old = (left_of before old ≡ Some []) ⊎ TextIsOver old
 
 -- What is seen of a text's end: behind all bytes that it gives, that it is whole; that a group is
 -- bad; that 2^62 bytes of it were taken; or that a read fails.
 abbrev pub SeesAs : SourceState → SourceState → ArmourReader → ArmourReader
     → Result (Unit {0}) DecryptError → Type 0
 SeesAs before now old new (Ok done) = (now.faults ≡ before.faults)
-    × (IsBehind before old → SeesEnd before now old new Whole × IsReadOut new)
+    × (TextIsBehind before old → SeesTextEnd before now old new Whole × IsReadOut new)
 SeesAs before now old new (Err (errors.Fault (BadArmour number))) =
-    SeesEnd before now old new (Bad number) × IsReadOut new
+    SeesTextEnd before now old new (Bad number) × IsReadOut new
 SeesAs before now old new (Err (errors.Outside InputTooLong)) =
-    SeesEnd before now old new TooLong × (new.pieces.taken ≡ most_input) × IsReadOut new
+    SeesTextEnd before now old new TooLong × (new.pieces.taken ≡ most_input) × IsReadOut new
 SeesAs before now old new (Err (errors.Outside SourceFault)) =
     Rose before.faults now.faults × IsReadOut new
 SeesAs before now old new (Err error) = ⊥

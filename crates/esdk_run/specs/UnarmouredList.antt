@@ -6,7 +6,7 @@ use Rattle.esdk_fields.specs.Place.{start}
 use Rattle.esdk_fields.specs.Reading.{Wanting}
 use Rattle.header_codec.specs.Table.{header}
 use Rattle.whole_input.specs.Taken.{Came}
-use Rattle.esdk_list.specs.List.{HasFault, IsListCause, LeavesOutput, Lists, limits_of}
+use Rattle.esdk_list.specs.List.{ListFindsFault, IsListCause, LeavesOutput, Lists, list_settings}
 use Rattle.esdk_report.specs.declared.failure.Failure.{Failure}
 use Rattle.esdk_report.specs.declared.failure.Failure.TheVariants as failures
 use Rattle.esdk_run.specs.Unarmoured.{InputEnds, ReadsInput}
@@ -21,7 +21,7 @@ wants_header ended = false
 pub record WantsHeader (uncommitted : Bool) (input taken : SourceState) : Type 0 where
   pub bytes : List ℕ
   pub came : Came input taken bytes
-  pub wanting : header (limits_of uncommitted) (start bytes) ≡ Wanting
+  pub wanting : header (list_settings uncommitted) (start bytes) ≡ Wanting
 
 -- The input begins with a header and its authentication, and the output gained the header's
 -- listing. Of an input that is read as armour no group is judged behind the header.
@@ -37,5 +37,5 @@ ListEndsAs armour uncommitted input taken output put unwritten failure =
     InputEnds armour failure input taken
     (λ seen read. IsListCause uncommitted failure seen read output put
     × LeavesOutput uncommitted failure seen read output put unwritten)
-    (λ seen read. HasFault uncommitted Truncated seen read × unwritten)
+    (λ seen read. ListFindsFault uncommitted Truncated seen read × unwritten)
     (λ seen read. WantsHeader uncommitted seen read × unwritten)

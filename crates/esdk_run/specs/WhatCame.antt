@@ -13,10 +13,10 @@ use Rattle.keyring_trait.specs.Keyring.{KeyringMeaning}
 use Rattle.keyring_trait.specs.Wrapping.{WrapKeyValue}
 use Rattle.body_format.specs.declared.verdicts.Verdict.TheVariants.{Whole}
 use Rattle.message_format.specs.Judgement.{content}
-use Rattle.whole_input.specs.FileReads.{ReadsWhole}
+use Rattle.whole_input.specs.FileReads.{ReadsWholeFile}
 use Rattle.esdk_encrypt.specs.Laws.{SealsWhatCame}
 use Rattle.esdk_decrypt.specs.Told.{Reader, judged_by}
-use Rattle.esdk_run.specs.ArmouredMessage.{form_of}
+use Rattle.esdk_run.specs.ArmouredMessage.{output_form}
 use Rattle.esdk_run.specs.Decrypt.{reader_of}
 use Rattle.esdk_run.specs.Encrypt.{run_writer}
 use Rattle.esdk_run.specs.Objects.{Objects}
@@ -29,7 +29,7 @@ use Rattle.esdk_run.specs.Unarmoured.{outlook_of}
 pub record TreeCame (trees : Trees) (name : List ℕ) (old new : ShelfState)
     (tree : KeyringMeaning) : Type 0 where
   pub file : List ℕ
-  pub read : ReadsWhole name old.calls new.calls file
+  pub read : ReadsWholeFile name old.calls new.calls file
   pub is : trees.read file ≡ Ok (tree ∷ [])
 
 -- ---- `encrypt`
@@ -44,17 +44,15 @@ pub record SealedWhatCame (trees : Trees) (asked : EncryptWords) (before after :
   pub tree : KeyringMeaning
   pub keyring : TreeCame trees asked.keyring before.shelf after.shelf tree
   pub sealed : (keys : List WrapKeyValue) → tree.keys ≡ Some keys
-      → SealsWhatCame (form_of asked.armour) (run_writer asked context keys) before.input after.input
+      → SealsWhatCame (output_form asked.armour) (run_writer asked context keys) before.input
+      after.input
       before.output after.output before.entropy after.entropy
-
--- `encrypt` that is done sealed what came.
-abbrev pub SealsIfDone : Trees → EncryptWords → Objects → Objects → ℕ → Type 0
-SealsIfDone trees asked before after code = code ≡ 0 → SealedWhatCame trees asked before after
 
 -- ---- `decrypt`
 
 -- These bytes are a whole message to this reader, and the output gained its content.
-pub record OpensWhole (reader : Reader) (bytes : List ℕ) (output put : SinkState) : Type 0 where
+pub record OpensAllThatCame (reader : Reader) (bytes : List ℕ) (output put : SinkState)
+    : Type 0 where
   pub whole : (judged_by reader bytes).verdict ≡ Whole
   pub gained : Appends output.written put.written (content (judged_by reader bytes))
 
@@ -76,9 +74,5 @@ pub record OpenedWhatCame (trees : Trees) (asked : DecryptWords) (before after :
   pub end : after.input.ended ≡ true
   pub sound : (outlook_of asked.armour bytes).end ≡ ends.Whole
   pub opened : (keys : List WrapKeyValue) → tree.keys ≡ Some keys → Stayed tree.faults left.faults
-      → OpensWhole (reader_of asked given keys) (outlook_of asked.armour bytes).bytes
+      → OpensAllThatCame (reader_of asked given keys) (outlook_of asked.armour bytes).bytes
       before.output after.output
-
--- `decrypt` that is done opened what came.
-abbrev pub OpensIfDone : Trees → DecryptWords → Objects → Objects → ℕ → Type 0
-OpensIfDone trees asked before after code = code ≡ 0 → OpenedWhatCame trees asked before after

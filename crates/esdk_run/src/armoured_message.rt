@@ -3,7 +3,7 @@
 ghost use Rattle.std.specs.Prelude.{◌≡◌, ◌+◌, ◌≤◌, ◌^◌, IfErr, OnOk};
 ghost use Rattle.keyring_trait.specs.Manager.{Went};
 ghost use Rattle.keyring_trait.specs.Saying.{said_last};
-ghost use Rattle.esdk_encrypt.specs.Encrypt.{encryption_of, Encrypts, EncryptEnds};
+ghost use Rattle.esdk_encrypt.specs.Encrypt.{encrypting_from, Encrypts, EncryptEnds};
 ghost use Rattle.esdk_run.specs.ArmouredMessage.{output_gains};
 
 use armour_core::ArmouredOutput;
@@ -30,13 +30,13 @@ pub(crate) fn write_message<M: Manager, S: Source, O: Sink, W: Entropy>(
 ) -> Result<(), EncryptError>
     requires some { 1 ≤ options.frame_length }
     ensures done { OnOk result (Encrypts
-        (encryption_of (said_last (M.state manager.old) (M.state manager.new))
+        (encrypting_from (said_last (M.state manager.old) (M.state manager.new))
         request.now options.now options.frame_length options.max_keys)
         (S.state input.old) (S.state input.new)
         (output_gains armour (O.state output.old) (O.state output.new))
         (W.state entropy.old) (W.state entropy.new)) }
     ensures ends { IfErr result (λ error. EncryptEnds
-        (encryption_of (said_last (M.state manager.old) (M.state manager.new))
+        (encrypting_from (said_last (M.state manager.old) (M.state manager.new))
         request.now options.now options.frame_length options.max_keys)
         (S.state input.old) (S.state input.new)
         (output_gains armour (O.state output.old) (O.state output.new))

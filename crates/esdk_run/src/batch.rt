@@ -1,12 +1,13 @@
 //! The command `batch`.
-ghost use Rattle.std.specs.Prelude.{◌≡◌, ◌<◌, ◌^◌, ⊤, is_some, true, length, IfErr, IfOk, Ok};
+ghost use Rattle.std.specs.Prelude.{◌≡◌, ◌<◌, ◌^◌, ⊤, is_some, true, length, IfErr, IfOk, Ok, ◌⊎◌};
 ghost use Rattle.esdk_base.specs.Streams.{SinkState, SourceState};
 ghost use Rattle.batch_report.specs.BatchReport.{report_of};
 ghost use Rattle.esdk_batch.specs.Batch.{OnlyWritten};
 ghost use Rattle.esdk_batch.specs.Failures.{CountsFailures, tally_of};
 ghost use Rattle.esdk_batch.specs.ShelfCalls.{AreFinished, CallsAtMost};
-ghost use Rattle.esdk_run.specs.Ages.{KeepsAges, ServesFileInTime, ServesInTime, ShowsAges};
-ghost use Rattle.esdk_run.specs.Batch.{BatchFails, JobsAre, JobsFail, RunsJobFile, RunsWithin, WritesReport, jobs_in, status_of};
+ghost use Rattle.esdk_run.specs.Ages.{ServesFileInTime, ServesInTime, ShowsAges};
+ghost use Rattle.esdk_run.specs.Batch.{BatchFails, JobsAre, JobsFail, RunsJobFile, RunsWithin};
+ghost use Rattle.esdk_run.specs.Batch.{WritesReport, jobs_in, status_of};
 ghost use Rattle.esdk_run.specs.FileReading.{FileFails, ReadCause};
 ghost use Rattle.esdk_run.specs.Objects.{as_before, objects};
 ghost use Rattle.esdk_run.specs.Run.{BatchRuns, RunsAllJobs, is_status};
@@ -58,8 +59,9 @@ pub fn run_batch<P: Keyring, O: Sink, R: Sink, F: Shelf, W: Entropy, C: Clock>(
         (W.state entropy.new) (R.state report.new))
         (as_before ⊤ (output.new ≡ output.old) (shelf.new ≡ shelf.old) (entropy.new ≡ entropy.old))
         result.status.code }
-    ensures ages { KeepsAges name.now (F.state shelf.old) (O.state output.old) (O.state output.new)
-        (C.state clock.old) (C.state clock.new) result.status.code }
+    ensures ages { (result.status.code ≡ 0) ⊎ (result.status.code ≡ 7)
+        → ShowsAges name.now (F.state shelf.old) (O.state output.old) (O.state output.new)
+        (C.state clock.old) (C.state clock.new) }
 {
     let Outcome { ended, tree } = batch_jobs(
         alloc,

@@ -1,6 +1,8 @@
 //! What the errors of the calls below are called in the program.
 ghost use Rattle.std.specs.Prelude.{◌≡◌};
-ghost use Rattle.esdk_run.specs.Failures.{decryption_failure, encryption_failure, extraction_failure, file_failure, pairs_failure, resealing_failure, tree_failure, words_failure};
+ghost use Rattle.esdk_run.specs.Failures.{decryption_failure, encryption_failure};
+ghost use Rattle.esdk_run.specs.Failures.{extraction_failure, file_failure, pairs_failure};
+ghost use Rattle.esdk_run.specs.Failures.{resealing_failure, tree_failure, words_failure};
 
 use context_codec::PairError;
 use esdk_args::WordsFault;

@@ -1,7 +1,7 @@
 //! The command `list`.
 ghost use Rattle.std.specs.Prelude.{◌≡◌, ◌+◌, ◌≤◌, ◌^◌, true, IfErr, OnOk};
 ghost use Rattle.esdk_base.specs.Streams.{OnTold};
-ghost use Rattle.esdk_list.specs.List.{input_fault};
+ghost use Rattle.esdk_list.specs.List.{listing_fault};
 ghost use Rattle.esdk_run.specs.Run.{AgreesWith, EndsBy, is_status};
 ghost use Rattle.esdk_run.specs.Unarmoured.{outlook_of};
 ghost use Rattle.esdk_run.specs.UnarmouredList.{ListEndsAs, ListsAs, wants_header};
@@ -34,7 +34,7 @@ pub fn run_list<S: Source, O: Sink, R: Sink>(
         result.code (R.state report.old) (R.state report.new) }
     ensures judged { OnTold (S.state input.old).left
         (λ bytes. AgreesWith result.code
-        (input_fault asked.now.uncommitted (outlook_of asked.now.armour bytes).bytes)) }
+        (listing_fault asked.now.uncommitted (outlook_of asked.now.armour bytes).bytes)) }
     ensures taken { (S.state input.new).given ≤ (S.state input.old).given + 2 ^ 62 }
 {
     match list_input(alloc, asked.armour, asked.uncommitted, input, output) {

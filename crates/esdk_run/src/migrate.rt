@@ -1,7 +1,8 @@
 //! The command `migrate`.
 ghost use Rattle.std.specs.Prelude.{◌≡◌, true, IfErr, IfOk, OnOk};
 ghost use Rattle.esdk_run.specs.FileReading.{FileFails, ReadCause};
-ghost use Rattle.esdk_run.specs.Migrate.{IsMigrated, IsTextOf, MigrateFails, WritesMigrated, value_asked};
+ghost use Rattle.esdk_run.specs.Migrate.{IsMigrated, IsTextOf, MigrateFails, WritesMigrated};
+ghost use Rattle.esdk_run.specs.Migrate.{value_asked};
 ghost use Rattle.esdk_run.specs.Run.{EndsBy, is_status};
 
 use crate::failures::tree_failure;

@@ -1,6 +1,7 @@
 //! The context and the required keys that the words of a command give.
 ghost use Rattle.std.specs.Prelude.{◌≡◌, Ok, IfErr, IfOk, OnOk, option_to_list};
-ghost use Rattle.esdk_run.specs.Pairs.{GivesContext, RefusesPairs, context_in, inserted, pair_in, required_in};
+ghost use Rattle.esdk_run.specs.Pairs.{GivesContext, RefusesPairs, context_in, inserted, pair_in};
+ghost use Rattle.esdk_run.specs.Pairs.{required_in};
 
 use context_codec::{Context, KeySet, PairError};
 use esdk_args::PairWord;

@@ -1,6 +1,7 @@
 -- Which call a note is of.
 use Rattle.std.specs.Prelude.{cond}
-use Rattle.esdk_seen.specs.Calls.{ShelfCall, reads, creates, appends, announces, finishes, its_owner, anyone}
+use Rattle.esdk_seen.specs.Calls.{ShelfCall, reads, creates, appends, announces, finishes}
+use Rattle.esdk_seen.specs.Calls.{its_owner, anyone}
 use Rattle.esdk_seen.specs.declared.calls.Call.{Call}
 use Rattle.esdk_seen.specs.declared.calls.Call.TheVariants as call
 

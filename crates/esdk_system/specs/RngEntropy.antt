@@ -14,8 +14,8 @@ pub record RngEntropyState : Type 0 where
 
 -- the bytes are the next of the generator, which goes on behind them; where there is none, there
 -- still is none
-abbrev pub Draws : {G : Type 0} → (G → Stream) → Option G → Option G → List ℕ → Type 0
-Draws stream None new out = new ≡ None
-Draws stream (Some before) None out = ⊥
-Draws stream (Some before) (Some after) out =
+abbrev pub DrawsFromGenerator : {G : Type 0} → (G → Stream) → Option G → Option G → List ℕ → Type 0
+DrawsFromGenerator stream None new out = new ≡ None
+DrawsFromGenerator stream (Some before) None out = ⊥
+DrawsFromGenerator stream (Some before) (Some after) out =
     (out, stream after) ≡ fill_bytes (length out) (stream before)

@@ -4,7 +4,7 @@ ghost use Rattle.std.specs.Prelude.{◌≡◌, [], None, is_err, is_none};
 ghost use Rattle.esdk_fields.specs.Counts.{HasCause};
 ghost use Rattle.esdk_base.specs.Entropy.{FillConsumes};
 ghost use Rattle.esdk_base.specs.Told.{FillDraws};
-ghost use Rattle.esdk_system.specs.RngEntropy.{Draws};
+ghost use Rattle.esdk_system.specs.RngEntropy.{DrawsFromGenerator};
 
 use esdk_base::{Entropy, Failed};
 use esdk_seen::SeenBytes;
@@ -60,7 +60,8 @@ impl Entropy for RngEntropy {
         ensures failed { is_err result ≡ is_none self.old.rng }
 
         // The bytes are the generator's, which goes on behind them.
-        ensures generator { Draws ⟦<ChaCha20Rng as Rng>⟧.stream self.old.rng self.new.rng out.new }
+        ensures generator { DrawsFromGenerator ⟦<ChaCha20Rng as Rng>⟧.stream self.old.rng
+            self.new.rng out.new }
     {
         let Some(rng) = &mut self.rng else {
             self.faults = self.faults.saturating_add(1);

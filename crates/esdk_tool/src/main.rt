@@ -113,7 +113,8 @@ fn run_over<P: Keyring, R: Sink>(
         (real_objects input.new output.new shelf.new entropy.new (R.state report.new))
         (as_before (input.new ≡ input.old) (output.new ≡ output.old)
         (shelf.new ≡ shelf.old) (entropy.new ≡ entropy.old))
-        (ticks (real_clock clock.old) (real_clock clock.new) (clock.new ≡ clock.old)) result.status.code }
+        (ticks (real_clock clock.old) (real_clock clock.new) (clock.new ≡ clock.old))
+        result.status.code }
 {
     run(
         alloc, words, input, output, report, shelf, entropy, clock, plugs,

@@ -6,7 +6,7 @@ use Rattle.esdk_fields.specs.Reading.{Reading, Read, Refused, Wanting}
 use Rattle.esdk_base.specs.Streams.{ShelfState, SinkState}
 use Rattle.context_codec.specs.Context.{KeyValue}
 use Rattle.header_codec.specs.declared.settings.Settings.{Settings}
-use Rattle.header_codec.specs.Table.{Head, header}
+use Rattle.header_codec.specs.Table.{HeaderFields, header}
 use Rattle.keyring_trait.specs.declared.manager_errors.ManagerError.TheVariants as managers
 use Rattle.keyring_trait.specs.Requests.{DecRequestValue}
 use Rattle.keyring_trait.specs.Unlocking.{Unlocking, Refuses, Unlocks}
@@ -15,14 +15,14 @@ use Rattle.esdk_decrypt.proofs.Told.{Allows, asked_of}
 use Rattle.extract_core.specs.declared.errors.ExtractError.{ExtractError}
 use Rattle.extract_core.specs.declared.errors.ExtractError.TheVariants as errors
 use Rattle.extract_core.specs.Extracted.{ByteRange}
-use Rattle.extract_core.specs.Extract.{ExtractEnds, Extracts, WritesFront, WritesLess}
+use Rattle.extract_core.specs.Extract.{ExtractEnds, Extracts, ExtractWritesFront, WritesLess}
 
 request_allowed : (from to : Answering) (request : DecRequestValue) (answer : Unlocking) → Allows from to → AnswersRequest from request answer → AnswersRequest to request answer
 request_allowed from to request (Unlocks whole only key) allows answers =
     (answers.0, allows.finds request (record { context = whole; only = only; key = key; served = answers.0 }) answers.1)
 request_allowed from to request (Refuses fault) allows answers = allows.finds_none request (managers.Fault fault) answers
 
-reading_allowed : (from to : Answering) (given : List KeyValue) (b : List ℕ) (r : Reading Head) (answer : Unlocking) → Allows from to → AnswersReading from given b r answer → AnswersReading to given b r answer
+reading_allowed : (from to : Answering) (given : List KeyValue) (b : List ℕ) (r : Reading HeaderFields) (answer : Unlocking) → Allows from to → AnswersReading from given b r answer → AnswersReading to given b r answer
 reading_allowed from to given b (Read parts body) answer allows answers = request_allowed from to _ answer allows answers
 reading_allowed from to given b (Refused fault at) answer allows is = is
 reading_allowed from to given b Wanting answer allows is = is
@@ -40,7 +40,7 @@ extracts_allowed from to settings given range old new name output put written al
 }
 
 front_allowed : (from to : Answering) (settings : Settings) (given : List KeyValue) (range : ByteRange) (old new : ShelfState) (output put : SinkState) (b : List ℕ) → Allows from to
-    → WritesFront (asked_of from settings given) range old new output put b → WritesFront (asked_of to settings given) range old new output put b
+    → ExtractWritesFront (asked_of from settings given) range old new output put b → ExtractWritesFront (asked_of to settings given) range old new output put b
 front_allowed from to settings given range old new output put b allows w =
     record { answer = w.answer; answered = answers_allowed from to settings given b w.answer allows w.answered; gained = w.gained; read = w.read }
 

@@ -9,7 +9,7 @@ use Rattle.esdk_base.specs.Streams.{FailsToRead, ShelfState}
 use Rattle.esdk_base.specs.Told.{TellsRead}
 use Rattle.whole_input.specs.FileReads.{Grows, IsSeenAs}
 use Rattle.whole_input.proofs.Agreeing.{one_read}
-use Rattle.extract_core.specs.ReadAhead.{Comes, ReadsFront}
+use Rattle.extract_core.specs.ReadAhead.{Comes, ReadsIntoFront}
 
 -- the calls of the shelf were only added to
 pub tells_grows : {E : Type 0} (old new : List ShelfCall) (r : Result ℕ E) (name : List ℕ) (at : ℕ) (out : List ℕ) → TellsRead old new r name at out → Grows old new
@@ -35,7 +35,7 @@ failed old new name false is rose same = inl (rose refl)
 
 pub reads_front : {E : Type 0} (old new : ShelfState) (name : List ℕ) (at room : ℕ) (out rest : List ℕ) (r : Result ℕ E) → ReadsAtMost r out → ReadsFrom old.files r name at out
     → EndsAt old.files r name at out → CountsGiven old.given new.given r → HasCauseOrMissing (is_missing old.files name) old.faults new.faults r
-    → TellsRead old.calls new.calls r name at out → length out ≡ room → 1 ≤ room → ReadsFront old new name at room (out ++ rest) r
+    → TellsRead old.calls new.calls r name at out → length out ≡ room → 1 ≤ room → ReadsIntoFront old new name at room (out ++ rest) r
 reads_front old new name at room out rest (Ok n) fits from ends given cause tells size some =
     let is : take n (out ++ rest) ≡ take n out = take-append-le n out rest fits.0 in
     let long : length (take n out) ≡ n = length-take n out ∙ omega (arith, fits.0) in (

@@ -15,7 +15,7 @@ use Rattle.esdk_base.specs.Streams.{ShelfState, SinkState}
 use Rattle.context_codec.specs.Context.{KeyValue}
 use Rattle.header_codec.specs.declared.settings.Settings.{Settings}
 use Rattle.header_codec.specs.Header.{HeaderValue}
-use Rattle.header_codec.specs.Table.{Head, header}
+use Rattle.header_codec.specs.Table.{HeaderFields, header}
 use Rattle.header_codec.proofs.Order.{IsSequential-header}
 use Rattle.suite_table.specs.Keys.{derived}
 use Rattle.keyring_trait.specs.Manager.{ManagerNow}
@@ -26,13 +26,13 @@ use Rattle.message_format.specs.declared.unlocking.Unlocked.{Unlocked}
 use Rattle.message_format.specs.Judgement.{header_of, lock_fault}
 use Rattle.message_format.specs.Unlocking.{IsUnlocked, StaysLocked, request_of}
 use Rattle.message_format.proofs.WrittenHeads.{header_found}
-use Rattle.esdk_decrypt.specs.Decrypt.{Answering, AnswersReading, AnswersRequest, AnswersTo, Asked, asked_from}
+use Rattle.esdk_decrypt.specs.Decrypt.{Answering, AnswersReading, AnswersRequest, AnswersTo, DecryptAsked, asked_from}
 use Rattle.esdk_decrypt.specs.Underway.{BearsOnce}
 use Rattle.extract_core.specs.declared.errors.ExtractError.{ExtractError}
 use Rattle.extract_core.specs.declared.errors.ExtractError.TheVariants as errors
 use Rattle.extract_core.specs.declared.slots.Slots.{Slots}
 use Rattle.extract_core.specs.Extracted.{ByteRange, Extraction, OpenBody, body_behind, extracted, extracted_body, extracted_header, extracted_lock, extracted_reading, nothing, slot_count, slot_width, slots_taken}
-use Rattle.extract_core.specs.Extract.{ExtractEnds, Extracts, HasHeader, HasNoHeader, IsHeaderOf, OnFile, WritesBefore, WritesFront, WritesLess, answer_reach, body_begin, header_fault_at_end, header_reach, lock_reach, locked_as, most_header, most_read, most_taken, named_reach, taken_reach}
+use Rattle.extract_core.specs.Extract.{ExtractEnds, Extracts, HasHeader, HasNoHeader, IsHeaderOf, OnFile, WritesBefore, ExtractWritesFront, WritesLess, answer_reach, body_begin, header_fault_at_end, header_reach, lock_reach, extract_locked_as, most_header, most_read, most_bytes_read, named_reach, taken_reach}
 use Rattle.extract_core.specs.Slots.{AreSlotsOf, OnBody, RangeFails, WritesRange, body_in, range_reach, slots_reach}
 use Rattle.extract_core.proofs.Definition.{taken_most}
 use Rattle.extract_core.proofs.Taking.{fails_from}
@@ -49,12 +49,12 @@ head_is settings h b is = header_found settings b h is.end is.begins
 pub answers_of : (manager : Answering) (settings : Settings) (given : List KeyValue) (b : List ℕ) (h : HeaderValue) (answer : Unlocking) → IsHeaderOf settings h b → AnswersRequest manager (request_of given h) answer
     → AnswersTo manager settings given b answer
 answers_of manager settings given b h answer is answers =
-    subst (λ (r : Reading Head). AnswersReading manager given b r answer) (sym is.begins.read)
+    subst (λ (r : Reading HeaderFields). AnswersReading manager given b r answer) (sym is.begins.read)
     (subst (λ (x : HeaderValue). AnswersRequest manager (request_of given x) answer) (sym (head_is settings h b is)) answers)
 
 -- ---- what is extracted
 
-extracted_is : (b : List ℕ) (settings : Settings) (answer : Unlocking) (range : ByteRange) (r : Reading Head) → header settings (start b) ≡ r → extracted b settings answer range ≡ extracted_reading b settings answer range r
+extracted_is : (b : List ℕ) (settings : Settings) (answer : Unlocking) (range : ByteRange) (r : Reading HeaderFields) → header settings (start b) ≡ r → extracted b settings answer range ≡ extracted_reading b settings answer range r
 unfolding extracted
 extracted_is b settings answer range r e = ap (extracted_reading b settings answer range) e
 
@@ -82,12 +82,12 @@ pub extracted_refused : (b : List ℕ) (settings : Settings) (fault : Fault) (ra
 extracted_refused b settings fault range h is = of_header b settings (Refuses fault) range h is
 
 -- of bytes without a header
-headless : (b : List ℕ) (settings : Settings) (range : ByteRange) (fault : Fault) (r : Reading Head) → header_fault_at_end r ≡ Some fault → extracted_reading b settings (Refuses fault) range r ≡ nothing (Some fault)
+headless : (b : List ℕ) (settings : Settings) (range : ByteRange) (fault : Fault) (r : Reading HeaderFields) → header_fault_at_end r ≡ Some fault → extracted_reading b settings (Refuses fault) range r ≡ nothing (Some fault)
 headless b settings range fault (Read parts end) e = absurd cc
 headless b settings range fault (Refused other at) e = ap nothing e
 headless b settings range fault Wanting e = ap nothing e
 
-headless_answer : (manager : Answering) (given : List KeyValue) (b : List ℕ) (fault : Fault) (r : Reading Head) → header_fault_at_end r ≡ Some fault → AnswersReading manager given b r (Refuses fault)
+headless_answer : (manager : Answering) (given : List KeyValue) (b : List ℕ) (fault : Fault) (r : Reading HeaderFields) → header_fault_at_end r ≡ Some fault → AnswersReading manager given b r (Refuses fault)
 headless_answer manager given b fault (Read parts end) e = absurd cc
 headless_answer manager given b fault (Refused other at) e = let same : other ≡ fault = cc in ap Refuses (sym same)
 headless_answer manager given b fault Wanting e = let same : Truncated ≡ fault = cc in ap Refuses (sym same)
@@ -95,8 +95,8 @@ headless_answer manager given b fault Wanting e = let same : Truncated ≡ fault
 -- ---- how much is read
 
 -- what is read for the header is within what is read of the slots that are taken, and of those that the range names
-header_within : (settings : Settings) (range : ByteRange) (b : List ℕ) (answer : Unlocking) → most_header settings b ≤ most_taken b settings answer range
-unfolding most_taken
+header_within : (settings : Settings) (range : ByteRange) (b : List ℕ) (answer : Unlocking) → most_header settings b ≤ most_bytes_read b settings answer range
+unfolding most_bytes_read
 header_within settings range b answer = omega arith
 
 -- where a header is read, up to a piece behind it is
@@ -105,13 +105,13 @@ header_read settings old mid name h has = λ b held.
     let is = has.is b held in
     omega (arith, has.given, is.begin, ap (header_reach b) is.begins.read)
 
-taken_is : (b : List ℕ) (settings : Settings) (answer : Unlocking) (range : ByteRange) (r : Reading Head) → header settings (start b) ≡ r → most_taken b settings answer range ≡ header_reach b r + taken_reach b settings answer range r
-unfolding most_taken
-taken_is b settings answer range r e = ap (λ (r : Reading Head). header_reach b r + taken_reach b settings answer range r) e
+taken_is : (b : List ℕ) (settings : Settings) (answer : Unlocking) (range : ByteRange) (r : Reading HeaderFields) → header settings (start b) ≡ r → most_bytes_read b settings answer range ≡ header_reach b r + taken_reach b settings answer range r
+unfolding most_bytes_read
+taken_is b settings answer range r e = ap (λ (r : Reading HeaderFields). header_reach b r + taken_reach b settings answer range r) e
 
 -- where it is unlocked, the slots that are taken are read behind it
 taken_open : (b : List ℕ) (settings : Settings) (whole only : List KeyValue) (key : List ℕ) (range : ByteRange) (h : HeaderValue) → IsHeaderOf settings h b → lock_fault h only key ≡ None
-    → most_taken b settings (Unlocks whole only key) range ≡ body_begin h + most_piece + range_reach (body_behind settings h key (drop (body_begin h) b)) range
+    → most_bytes_read b settings (Unlocks whole only key) range ≡ body_begin h + most_piece + range_reach (body_behind settings h key (drop (body_begin h) b)) range
 taken_open b settings whole only key range h is sound =
     taken_is b settings (Unlocks whole only key) range (Read is.begins.parts is.end) is.begins.read
     ∙ ap (λ (x : HeaderValue). is.end.at + most_piece + answer_reach settings range x is.end (Unlocks whole only key)) (head_is settings h b is)
@@ -120,7 +120,7 @@ taken_open b settings whole only key range h is sound =
     ∙ ap (λ (n : ℕ). n + most_piece + range_reach (body_behind settings h key (drop (body_begin h) b)) range) is.begin
 
 -- nothing is written, and this fault ends it
-ends_empty : (asked : Asked) (range : ByteRange) (old new : ShelfState) (output : SinkState) (fault : Fault) (b : List ℕ) (answer : Unlocking) → AnswersTo asked.manager asked.settings asked.given b answer
+ends_empty : (asked : DecryptAsked) (range : ByteRange) (old new : ShelfState) (output : SinkState) (fault : Fault) (b : List ℕ) (answer : Unlocking) → AnswersTo asked.manager asked.settings asked.given b answer
     → extracted b asked.settings answer range ≡ nothing (Some fault) → new.given ≤ old.given + most_header asked.settings b → WritesBefore asked range old new output output fault b
 ends_empty asked range old new output fault b answer answers is read = record {
   answer = answer;
@@ -131,12 +131,12 @@ ends_empty asked range old new output fault b answer answers is read = record {
 }
 
 -- nothing is written
-pub writes_none : (asked : Asked) (range : ByteRange) (old new : ShelfState) (name : List ℕ) (output put : SinkState) (unwritten : Type 0) → unwritten → WritesLess asked range old new name output put unwritten
+pub writes_none : (asked : DecryptAsked) (range : ByteRange) (old new : ShelfState) (name : List ℕ) (output put : SinkState) (unwritten : Type 0) → unwritten → WritesLess asked range old new name output put unwritten
 writes_none asked range old new name output put unwritten same = record { front = inl same; missing = λ missing. same }
 
 -- ---- no header came
 
-pub without_header : (asked : Asked) (range : ByteRange) (old new : ShelfState) (name : List ℕ) (output : SinkState) (unwritten : Type 0) (error : ExtractError) → unwritten
+pub without_header : (asked : DecryptAsked) (range : ByteRange) (old new : ShelfState) (name : List ℕ) (output : SinkState) (unwritten : Type 0) (error : ExtractError) → unwritten
     → HasNoHeader asked.settings old new name error → OnFile old new name (λ b. new.given ≤ old.given + most_header asked.settings b) → ExtractEnds asked range old new name output output unwritten error
 without_header asked range old new name output unwritten (errors.Fault fault) same none given = record {
   there = none.0;
@@ -161,7 +161,7 @@ given_less settings range old new name given = λ b h. omega (arith, given b h)
 -- ---- the header stays locked
 
 pub stays_locked : (old_m new_m : ManagerNow) (now : ℕ) (settings : Settings) (given : List KeyValue) (range : ByteRange) (old mid : ShelfState) (name : List ℕ) (output : SinkState) (unwritten : Type 0) (h : HeaderValue) (error : UnlockError)
-    → unwritten → HasHeader settings old mid name h → StaysLocked old_m new_m now given h error → ExtractEnds (asked_from old_m new_m now settings given) range old mid name output output unwritten (locked_as error)
+    → unwritten → HasHeader settings old mid name h → StaysLocked old_m new_m now given h error → ExtractEnds (asked_from old_m new_m now settings given) range old mid name output output unwritten (extract_locked_as error)
 stays_locked old_m new_m now settings given range old mid name output unwritten h (locks.Fault fault) same has (inl named) = record {
   there = has.there;
   faults = has.faults;
@@ -243,7 +243,7 @@ open_extracts old_m new_m now settings given old mid after name s range o b held
 -- how much is read, by what is read of the body
 open_reads : (old_m new_m : ManagerNow) (now : ℕ) (settings : Settings) (given : List KeyValue) (old mid after : ShelfState) (name : List ℕ) (s : Slots) (range : ByteRange) (o : IsOpen old_m new_m now settings given old mid after name s)
     → OnBody s mid after name (λ b. after.given ≤ mid.given + range_reach b range)
-    → OnFile old after name (λ b. after.given ≤ old.given + most_taken b settings (Unlocks o.unlocked.materials.context o.unlocked.materials.only o.unlocked.materials.key) range)
+    → OnFile old after name (λ b. after.given ≤ old.given + most_bytes_read b settings (Unlocks o.unlocked.materials.context o.unlocked.materials.only o.unlocked.materials.key) range)
 open_reads old_m new_m now settings given old mid after name s range o read = λ b held.
     let m = o.unlocked.materials in
     let all = taken_open b settings m.context m.only m.key range o.h (o.has.is b (seen_first old mid after name b o.grown o.later held)) o.unlocked.sound in
@@ -272,7 +272,7 @@ extracts_all old_m new_m now settings given old mid after name s range output pu
 -- a front of the range was written
 writes_front : (old_m new_m : ManagerNow) (now : ℕ) (settings : Settings) (given : List KeyValue) (old mid after : ShelfState) (name : List ℕ) (s : Slots) (range : ByteRange) (output put : SinkState)
     → IsOpen old_m new_m now settings given old mid after name s → OnBody s mid after name (λ b. AppendsFront output.written put.written (extracted_body b range).part) → OnBody s mid after name (λ b. after.given ≤ mid.given + range_reach b range)
-    → OnFile old after name (WritesFront (asked_from old_m new_m now settings given) range old after output put)
+    → OnFile old after name (ExtractWritesFront (asked_from old_m new_m now settings given) range old after output put)
 writes_front old_m new_m now settings given old mid after name s range output put o front read = λ b held. record {
   answer = Unlocks o.unlocked.materials.context o.unlocked.materials.only o.unlocked.materials.key;
   answered = open_answers old_m new_m now settings given old mid after name s o b (seen_first old mid after name b o.grown o.later held);

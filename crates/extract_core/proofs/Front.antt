@@ -17,13 +17,13 @@ use Rattle.header_codec.specs.declared.session.HeaderReader.{HeaderReader}
 use Rattle.header_codec.specs.declared.settings.Settings.{Settings}
 use Rattle.header_codec.specs.Header.{HeaderValue}
 use Rattle.header_codec.specs.Session.{ShowsHeader}
-use Rattle.header_codec.specs.Table.{BeginsWith, Head, header, header_iv, opening}
+use Rattle.header_codec.specs.Table.{BeginsWith, HeaderFields, header, header_iv, opening}
 use Rattle.header_codec.proofs.Followed.{BeginsWith-append}
 use Rattle.header_codec.proofs.Order.{IsSequential-header}
 use Rattle.header_codec.proofs.Steps.{header_is_read}
 use Rattle.header_codec.proofs.Whole.{size_within}
-use Rattle.header_input.specs.Feeding.{Holds as ReaderHolds, session_of}
-use Rattle.header_input.specs.Taking.{HoldsHeader, LacksMemory, NoneCame}
+use Rattle.header_input.specs.Feeding.{HasTakenHeader as ReaderHolds, header_session_of}
+use Rattle.header_input.specs.Taking.{HoldsHeader, HeaderInputLacksMemory, NoneCame}
 use Rattle.header_input.specs.declared.errors.NoHeader.{NoHeader}
 use Rattle.header_input.specs.declared.errors.NoHeader.TheVariants as headers
 use Rattle.whole_input.specs.declared.pieces.End.TheVariants as ends
@@ -32,7 +32,7 @@ use Rattle.whole_input.specs.Pieces.{most_piece}
 use Rattle.whole_input.specs.Taken.{Came, EndSeen}
 use Rattle.whole_input.proofs.Agreeing.{came_front, came_whole}
 use Rattle.extract_core.specs.Extract.{HasHeader, HasNoHeader, IsHeaderOf, OnFile, authentication_size, body_begin, header_fault_at_end, header_reach, most_header, unheaded_as}
-use Rattle.whole_input.specs.FileSource.{ReadsOn, file_left, left_from}
+use Rattle.whole_input.specs.FileSource.{FileReadsOn, file_left, left_from}
 
 -- ---- where a header ends
 
@@ -48,7 +48,7 @@ unfolding header_iv
 iv_end Committing p x next e = let same : p ≡ next = cc in omega (arith, ap (λ (q : Place). q.at) same)
 iv_end Uncommitted p x next e = omega (arith, field_end 12 p x next e)
 
-pub header_end : (settings : Settings) (p : Place) (parts : Head) (end : Place) → header settings p ≡ Read parts end → end.at ≡ parts.size + authentication_size parts.opening.suite
+pub header_end : (settings : Settings) (p : Place) (parts : HeaderFields) (end : Place) → header settings p ≡ Read parts end → end.at ≡ parts.size + authentication_size parts.opening.suite
 header_end settings p parts end e =
     let h = header_is_read settings p parts end e in
     omega (arith, h.size, iv_end parts.opening.suite h.body_end parts.iv h.iv_end h.iv, field_end 16 h.iv_end parts.tag end h.tag)
@@ -112,7 +112,7 @@ pub record IsFront (old new : ShelfState) (name : List ℕ) (first now : SourceS
   pub left : now.left ≡ file_left new.files name at
   pub given : now.given ≡ at
   pub few : at ≤ 2 ^ 62
-  pub on : ReadsOn old new name 0 at 0 now.faults
+  pub on : FileReadsOn old new name 0 at 0 now.faults
   pub comes : ComesFrom name 0 at old.calls new.calls [] now.came false now.ended
 
 first_left : (old new : ShelfState) (name : List ℕ) (first now : SourceState) (at : ℕ) → IsFront old new name first now at → (told : List ℕ) → Holds old.files name told → first.left ≡ Some told
@@ -169,7 +169,7 @@ some_bytes settings (x ∷ xs) other = omega arith
 
 -- a header came
 pub header_came : (settings : Settings) (reader : HeaderReader) (old new : ShelfState) (name : List ℕ) (first now : SourceState) (at : ℕ) (h : HeaderValue) → IsFront old new name first now at
-    → (holds : HoldsHeader settings reader first now) → ShowsHeader (session_of settings holds.holds.taken) (Some h) → HasHeader settings old new name h
+    → (holds : HoldsHeader settings reader first now) → ShowsHeader (header_session_of settings holds.holds.taken) (Some h) → HasHeader settings old new name h
 header_came settings reader old new name first now at h front holds shows =
     let taken : List ℕ = holds.holds.taken in
     let rest : List ℕ = holds.holds.rest in
@@ -190,12 +190,12 @@ header_came settings reader old new name first now at h front holds shows =
       given = omega (arith, front.on.given, front.given, holds.came.most, holds.few, ap length holds.holds.front, long, begin, ap (λ (s : SourceState). s.given) front.first_is);
     }
   where
-    read_not_wanting : (r : Reading Head) (parts : Head) (end : Place) → r ≡ Read parts end → r ≡ Wanting → ⊥
+    read_not_wanting : (r : Reading HeaderFields) (parts : HeaderFields) (end : Place) → r ≡ Read parts end → r ≡ Wanting → ⊥
     read_not_wanting r parts end e w = cc
 
 -- ---- none came
 
-refused_not_wanting : (r : Reading Head) (fault : Fault) (at : ℕ) → r ≡ Refused fault at → r ≡ Wanting → ⊥
+refused_not_wanting : (r : Reading HeaderFields) (fault : Fault) (at : ℕ) → r ≡ Refused fault at → r ≡ Wanting → ⊥
 refused_not_wanting r fault at e w = cc
 
 failed_cause : (old new : ShelfState) (name : List ℕ) (first now : SourceState) (at : ℕ) → IsFront old new name first now at → Rose first.faults now.faults → FailsToRead old new name
@@ -228,7 +228,7 @@ none_came settings old new name first now at headers.Memory front none = none_fa
 
 -- ---- how much was read
 
-reach_of : (settings : Settings) (told : List ℕ) (r : Reading Head) → header settings (start told) ≡ r → most_header settings told ≡ header_reach told r
+reach_of : (settings : Settings) (told : List ℕ) (r : Reading HeaderFields) → header settings (start told) ≡ r → most_header settings told ≡ header_reach told r
 reach_of settings told r e = ap (header_reach told) e
 
 pub given_came : (settings : Settings) (reader : HeaderReader) (old new : ShelfState) (name : List ℕ) (h : HeaderValue) → HasHeader settings old new name h
@@ -238,7 +238,7 @@ given_came settings reader old new name h has = λ told holds.
     omega (arith, has.given, reach_of settings told (Read is.begins.parts is.end) is.begins.read, is.begin)
 
 -- bytes that want more are within what is read at the most
-within_reach : (settings : Settings) (told b rest : List ℕ) (r : Reading Head) → told ≡ b ++ rest → header settings (start b) ≡ Wanting → header settings (start (b ++ rest)) ≡ r
+within_reach : (settings : Settings) (told b rest : List ℕ) (r : Reading HeaderFields) → told ≡ b ++ rest → header settings (start b) ≡ Wanting → header settings (start (b ++ rest)) ≡ r
     → length b ≤ header_reach told r
 within_reach settings told b rest (Read parts end) is wants e =
     let h = read_after (header settings) b rest parts end (IsSequential-header settings) wants e in omega (arith, h)
@@ -247,7 +247,7 @@ within_reach settings told b rest (Refused fault at) is wants e =
 within_reach settings told b rest Wanting is wants e = omega (arith, ap length is, length-append b rest)
 
 -- of bytes that want more, and a piece behind them
-piece_reach : (settings : Settings) (told before piece rest : List ℕ) (r : Reading Head) → told ≡ (before ++ piece) ++ rest → header settings (start before) ≡ Wanting → length piece ≤ most_piece
+piece_reach : (settings : Settings) (told before piece rest : List ℕ) (r : Reading HeaderFields) → told ≡ (before ++ piece) ++ rest → header settings (start before) ≡ Wanting → length piece ≤ most_piece
     → header settings (start (before ++ (piece ++ rest))) ≡ r → length before + length piece ≤ header_reach told r
 piece_reach settings told before piece rest (Read parts end) is wants few e =
     let h = read_after (header settings) before (piece ++ rest) parts end (IsSequential-header settings) wants e in omega (arith, h, few)
@@ -257,7 +257,7 @@ piece_reach settings told before piece rest Wanting is wants few e = omega (arit
 
 -- memory ran out at a piece behind bytes that want more
 lacking_given : (settings : Settings) (old new : ShelfState) (name : List ℕ) (first now : SourceState) (at : ℕ) → IsFront old new name first now at
-    → LacksMemory settings first now → OnFile old new name (λ told. new.given ≤ old.given + most_header settings told)
+    → HeaderInputLacksMemory settings first now → OnFile old new name (λ told. new.given ≤ old.given + most_header settings told)
 lacking_given settings old new name first now at front lacks = λ told h.
     let more = begins_with old new name first now at told lacks.bytes front h lacks.came in
     let before : List ℕ = lacks.last.before in
@@ -287,37 +287,37 @@ none_given settings old new name first now at (headers.End ends.Failed) front no
 none_given settings old new name first now at (headers.End ends.TooLong) front none = wanting_given settings old new name first now at none.bytes front none.came none.wanting
 none_given settings old new name first now at headers.Memory front none = lacking_given settings old new name first now at front none
 
-pub shows_none : (settings : Settings) (reader : HeaderReader) (bytes : List ℕ) (holds : ReaderHolds settings reader bytes) → ShowsHeader (session_of settings holds.taken) None → ⊥
+pub shows_none : (settings : Settings) (reader : HeaderReader) (bytes : List ℕ) (holds : ReaderHolds settings reader bytes) → ShowsHeader (header_session_of settings holds.taken) None → ⊥
 shows_none settings reader bytes holds wanting = read_not_wanting (header settings (start holds.taken)) holds.parts holds.end holds.read wanting
   where
-    read_not_wanting : (r : Reading Head) (parts : Head) (end : Place) → r ≡ Read parts end → r ≡ Wanting → ⊥
+    read_not_wanting : (r : Reading HeaderFields) (parts : HeaderFields) (end : Place) → r ≡ Read parts end → r ≡ Wanting → ⊥
     read_not_wanting r parts end e w = cc
 
 -- The source was made of the file, and is read on.
 pub front_is : (old new : ShelfState) (name : List ℕ) (first now : SourceState) (at faults : ℕ) (came : List ℕ) (ended : Bool)
     → first ≡ record { left = file_left old.files name 0; given = 0; faults = 0; came = []; ended = false }
-    → now ≡ record { left = file_left new.files name at; given = at; faults = faults; came = came; ended = ended } → now.given ≤ first.given + 2 ^ 62 → ReadsOn old new name 0 at 0 faults
+    → now ≡ record { left = file_left new.files name at; given = at; faults = faults; came = came; ended = ended } → now.given ≤ first.given + 2 ^ 62 → FileReadsOn old new name 0 at 0 faults
     → ComesFrom name 0 at old.calls new.calls [] now.came false now.ended → IsFront old new name first now at
 front_is old new name first now at faults came ended first_is now_is few on comes = record {
   first_is = first_is;
   left = ap (λ (s : SourceState). s.left) now_is;
   given = ap (λ (s : SourceState). s.given) now_is;
   few = omega (arith, few, ap (λ (s : SourceState). s.given) now_is, ap (λ (s : SourceState). s.given) first_is);
-  on = subst (λ (n : ℕ). ReadsOn old new name 0 at 0 n) (sym (ap (λ (s : SourceState). s.faults) now_is)) on;
+  on = subst (λ (n : ℕ). FileReadsOn old new name 0 at 0 n) (sym (ap (λ (s : SourceState). s.faults) now_is)) on;
   comes = comes;
 }
 
 -- the same by what is known of the source's parts
 pub front_made : (made old read : ShelfState) (made_name name now_name : List ℕ) (made_at made_faults at faults : ℕ) (made_came came : List ℕ) (made_ended ended : Bool) → made ≡ old → made_name ≡ name → made_at ≡ 0 → made_faults ≡ 0
-    → made_came ≡ [] → made_ended ≡ false → now_name ≡ made_name → ReadsOn made read made_name made_at at made_faults faults → ComesFrom made_name made_at at made.calls read.calls made_came came made_ended ended → at ≤ made_at + 2 ^ 62
+    → made_came ≡ [] → made_ended ≡ false → now_name ≡ made_name → FileReadsOn made read made_name made_at at made_faults faults → ComesFrom made_name made_at at made.calls read.calls made_came came made_ended ended → at ≤ made_at + 2 ^ 62
     → IsFront old read name (record { left = file_left made.files made_name made_at; given = made_at; faults = made_faults; came = made_came; ended = made_ended })
     (record { left = file_left read.files now_name at; given = at; faults = faults; came = came; ended = ended }) at
 front_made made old read made_name name now_name made_at made_faults at faults made_came came made_ended ended shelf name_is at_is faults_is came_none not_ended same on comes few =
     front_is old read name _ _ at faults came ended (rw (shelf, name_is, at_is, faults_is, came_none, not_ended) refl) (rw (same, name_is) refl) few
-    (subst (λ (s : ShelfState). ReadsOn s read name 0 at 0 faults) shelf
-    (subst (λ (n : List ℕ). ReadsOn made read n 0 at 0 faults) name_is
-    (subst (λ (m : ℕ). ReadsOn made read made_name m at 0 faults) at_is
-    (subst (λ (m : ℕ). ReadsOn made read made_name made_at at m faults) faults_is on))))
+    (subst (λ (s : ShelfState). FileReadsOn s read name 0 at 0 faults) shelf
+    (subst (λ (n : List ℕ). FileReadsOn made read n 0 at 0 faults) name_is
+    (subst (λ (m : ℕ). FileReadsOn made read made_name m at 0 faults) at_is
+    (subst (λ (m : ℕ). FileReadsOn made read made_name made_at at m faults) faults_is on))))
     (subst (λ (s : ShelfState). ComesFrom name 0 at s.calls read.calls [] came false ended) shelf
     (subst (λ (n : List ℕ). ComesFrom n 0 at made.calls read.calls [] came false ended) name_is
     (subst (λ (m : ℕ). ComesFrom made_name m at made.calls read.calls [] came false ended) at_is

@@ -18,7 +18,7 @@ use Rattle.frame_codec.specs.Unit.{Under, frame, unit}
 use Rattle.body_format.specs.declared.verdicts.Verdict.TheVariants.{Whole, Faulty}
 use Rattle.body_format.specs.OneSlot.{IsTabled}
 use Rattle.body_format.specs.Body.{beside_content}
-use Rattle.body_format.specs.Table.{framed_verdict, good_final, good_regular, part, slot_bytes}
+use Rattle.body_format.specs.Table.{framed_verdict, good_final, good_regular, slice_at, slot_bytes}
 use Rattle.body_format.proofs.FrameTable.{final_content, frame_tabled}
 use Rattle.extract_core.specs.Extracted.{OpenBody, last_slot, slot_read}
 use Rattle.extract_core.proofs.Heads.{length_opened}
@@ -123,8 +123,8 @@ final_slot n u k bytes text e =
     let c = both (there && marked) numbered b.0 in
     let d = both there marked c.0 in
     let all : size + 40 ≤ length bytes = not_less (length bytes) (size + 40) _ refl a.1 in
-    let same = length_opened u.key (part 8 12 bytes) (unit_aad u.id kinds.Final (k + 1) size)
-    (part 24 size bytes) (part (24 + size) 16 bytes) text held.1 in
+    let same = length_opened u.key (slice_at 8 12 bytes) (unit_aad u.id kinds.Final (k + 1) size)
+    (slice_at 24 size bytes) (slice_at (24 + size) 16 bytes) text held.1 in
     record {
       long = not_less (length bytes) 24 _ refl d.0;
       marked = d.1;

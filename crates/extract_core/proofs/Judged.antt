@@ -11,7 +11,7 @@ use Rattle.esdk_fields.specs.Bytes.{AreBytes}
 use Rattle.esdk_fields.specs.Place.{Place, start}
 use Rattle.esdk_fields.specs.Reading.{Reading, Read, Refused, Wanting}
 use Rattle.esdk_fields.proofs.Bytes.{AreBytes-drop}
-use Rattle.frame_codec.specs.Unit.{block, unit}
+use Rattle.frame_codec.specs.Unit.{block_unit, unit}
 use Rattle.body_format.specs.declared.verdicts.Verdict.TheVariants.{Whole}
 use Rattle.body_format.specs.OneSlot.{last_in}
 use Rattle.body_format.specs.Rows.{JudgedBody}
@@ -24,7 +24,7 @@ use Rattle.suite_table.specs.Keys.{derived}
 use Rattle.context_codec.specs.Context.{KeyValue}
 use Rattle.header_codec.specs.declared.settings.Settings.{Settings}
 use Rattle.header_codec.specs.Header.{HeaderValue, IsContent}
-use Rattle.header_codec.specs.Table.{Head, header}
+use Rattle.header_codec.specs.Table.{HeaderFields, header}
 use Rattle.header_codec.proofs.Spelled.{is_spelled}
 use Rattle.header_codec.proofs.Uniqueness.{some_header}
 use Rattle.keyring_trait.specs.Unlocking.{Unlocking, Refuses, Unlocks}
@@ -32,7 +32,7 @@ use Rattle.message_format.specs.Judgement.{Judged, content, header_of, judged, j
 use Rattle.message_format.proofs.Judging.{judged_is}
 use Rattle.extract_core.specs.Extract.{IsHeaderOf, body_begin}
 use Rattle.extract_core.specs.Extracted.{ByteRange, Extraction, OpenBody, body_behind, extracted, extracted_body, first_slot, in_range, slot_part, slot_read, slots_taken, unit_content}
-use Rattle.extract_core.specs.Laws.{BeginsWithin, EndsAsItBegins, ExtractsOfWhole, ExtractsTheContent, ExtractsWholeMessages, IsUnlocked, TakesTagForNumber, body_at}
+use Rattle.extract_core.specs.Laws.{BeginsWithin, EndsAsItBegins, ExtractsOfWhole, ExtractsTheContent, ExtractsWholeMessages, HeaderIsUnlocked, TakesTagForNumber, body_at}
 use Rattle.extract_core.proofs.Behind.{HasOtherNumber, next_full, none_stands}
 use Rattle.extract_core.proofs.Contents.{last_content, none_before, none_of_empty}
 use Rattle.extract_core.proofs.Definition.{ends_at, flat_map_next, nothing_in_range, of_nothing, taken_least}
@@ -159,11 +159,11 @@ frames_whole n max_unit key id bytes j range some count f whole =
 abbrev open_block : Option ℕ → List ℕ → List ℕ → List ℕ → OpenBody
 open_block max_unit key id bytes = record { content = Single; max_unit = max_unit; key = key; id = id; bytes = bytes }
 
-block_same : (max_unit : Option ℕ) (key id : List ℕ) (p : Place) → unit Single max_unit key id (0 + 1) p ≡ block max_unit key id p
-unfolding block
+block_same : (max_unit : Option ℕ) (key id : List ℕ) (p : Place) → unit Single max_unit key id (0 + 1) p ≡ block_unit max_unit key id p
+unfolding block_unit
 block_same max_unit key id p = refl
 
-block_there : (max_unit : Option ℕ) (key id bytes : List ℕ) → slot_read (open_block max_unit key id bytes) 0 ≡ block max_unit key id (start bytes)
+block_there : (max_unit : Option ℕ) (key id bytes : List ℕ) → slot_read (open_block max_unit key id bytes) 0 ≡ block_unit max_unit key id (start bytes)
 block_there max_unit key id bytes = slot_alone (open_block max_unit key id bytes) 0 (omega arith) ∙ block_same max_unit key id (start bytes)
 
 block_good : (max_unit : Option ℕ) (key id bytes text : List ℕ) (range : ByteRange) → 1 ≤ range.count → good_block max_unit key id bytes ≡ Some text
@@ -192,7 +192,7 @@ block_whole : (max_unit : Option ℕ) (key id bytes : List ℕ) (range : ByteRan
     → IsOfUnits (open_block max_unit key id bytes) range (listed (good_block max_unit key id bytes))
 block_whole max_unit key id bytes range count whole =
     let t = block_reads max_unit key id bytes 0 in
-    let found = whole_last (block max_unit key id (start bytes)) (t.verdict ∙ whole) in
+    let found = whole_last (block_unit max_unit key id (start bytes)) (t.verdict ∙ whole) in
     let good = sym t.last ∙ found.1 in
     of_units (open_block max_unit key id bytes) range (listed (good_block max_unit key id bytes))
     (block_good max_unit key id bytes found.0 range count good)
@@ -277,7 +277,7 @@ body_whole content max_unit key id p range is fits whole =
 abbrev body_of_header : Settings → HeaderValue → List ℕ → Place → JudgedBody
 body_of_header settings h key end = judged_body h.content settings.max_unit (derived h.suite key h.message_id) h.message_id end
 
-judged_open : (b : List ℕ) (settings : Settings) (answer : Unlocking) (h : HeaderValue) (key : List ℕ) (i : IsUnlocked b settings answer h key)
+judged_open : (b : List ℕ) (settings : Settings) (answer : Unlocking) (h : HeaderValue) (key : List ℕ) (i : HeaderIsUnlocked b settings answer h key)
     → judged b settings answer ≡ opened_as (body_of_header settings h key i.header.end)
 judged_open b settings answer h key i =
     judged_is b settings answer (Read i.header.begins.parts i.header.end) i.header.begins.read
@@ -285,7 +285,7 @@ judged_open b settings answer h key i =
     ∙ ap (λ (x : HeaderValue). judged_header settings x i.header.end (Unlocks i.whole i.only key)) (head_is settings h b i.header)
     ∙ ap (judged_lock settings h key i.header.end) i.sound
 
-extracted_is_open : (b : List ℕ) (settings : Settings) (answer : Unlocking) (range : ByteRange) (h : HeaderValue) (key : List ℕ) (i : IsUnlocked b settings answer h key)
+extracted_is_open : (b : List ℕ) (settings : Settings) (answer : Unlocking) (range : ByteRange) (h : HeaderValue) (key : List ℕ) (i : HeaderIsUnlocked b settings answer h key)
     → extracted b settings answer range ≡ extracted_body (body_behind settings h key i.header.end.left) range
 extracted_is_open b settings answer range h key i =
     ap (λ (a : Unlocking). extracted b settings a range) i.unlocks
@@ -309,7 +309,7 @@ extracts_content b settings answer range h key fits i few =
     ∙ ap (λ (x : Judged). record { part = in_range range 0 (content x); fault = None }) (sym j)
 
 whole_open : (b : List ℕ) (settings : Settings) (answer : Unlocking) (range : ByteRange)
-    (h : HeaderValue) (key : List ℕ) → AreBytes b → IsUnlocked b settings answer h key
+    (h : HeaderValue) (key : List ℕ) → AreBytes b → HeaderIsUnlocked b settings answer h key
     → (judged b settings answer).verdict ≡ Whole → ExtractsOfWhole b settings answer range
 whole_open b settings answer range h key fits i whole =
     let j = judged_open b settings answer h key i in
@@ -332,9 +332,9 @@ whole_open b settings answer range h key fits i whole =
 record SomeUnlocked (b : List ℕ) (settings : Settings) (answer : Unlocking) : Type 0 where
   pub header : HeaderValue
   pub key : List ℕ
-  pub is : IsUnlocked b settings answer header key
+  pub is : HeaderIsUnlocked b settings answer header key
 
-by_lock : (b : List ℕ) (settings : Settings) (parts : Head) (end : Place) (whole only : List KeyValue) (key : List ℕ) (o : Option Fault) → header settings (start b) ≡ Read parts end
+by_lock : (b : List ℕ) (settings : Settings) (parts : HeaderFields) (end : Place) (whole only : List KeyValue) (key : List ℕ) (o : Option Fault) → header settings (start b) ≡ Read parts end
     → lock_fault (header_of b parts) only key ≡ o → (judged_lock settings (header_of b parts) key end o).verdict ≡ Whole → SomeUnlocked b settings (Unlocks whole only key)
 by_lock b settings parts end whole only key (Some fault) e lock sound = absurd cc
 by_lock b settings parts end whole only key None e lock sound =
@@ -351,16 +351,16 @@ by_lock b settings parts end whole only key None e lock sound =
         whole = whole;
         only = only;
         unlocks = refl;
-        sound = ap (λ (x : HeaderValue). lock_fault x only key) (sym (head_is settings h b is)) ∙ ap (λ (p : Head). lock_fault (header_of b p) only key) same ∙ lock;
+        sound = ap (λ (x : HeaderValue). lock_fault x only key) (sym (head_is settings h b is)) ∙ ap (λ (p : HeaderFields). lock_fault (header_of b p) only key) same ∙ lock;
       };
     }
 
-by_answer : (b : List ℕ) (settings : Settings) (parts : Head) (end : Place) (answer : Unlocking) → header settings (start b) ≡ Read parts end
+by_answer : (b : List ℕ) (settings : Settings) (parts : HeaderFields) (end : Place) (answer : Unlocking) → header settings (start b) ≡ Read parts end
     → (judged_header settings (header_of b parts) end answer).verdict ≡ Whole → SomeUnlocked b settings answer
 by_answer b settings parts end (Refuses fault) e sound = absurd cc
 by_answer b settings parts end (Unlocks whole only key) e sound = by_lock b settings parts end whole only key (lock_fault (header_of b parts) only key) e refl sound
 
-by_reading : (b : List ℕ) (settings : Settings) (answer : Unlocking) (r : Reading Head) → header settings (start b) ≡ r → (judged_reading b settings answer r).verdict ≡ Whole → SomeUnlocked b settings answer
+by_reading : (b : List ℕ) (settings : Settings) (answer : Unlocking) (r : Reading HeaderFields) → header settings (start b) ≡ r → (judged_reading b settings answer r).verdict ≡ Whole → SomeUnlocked b settings answer
 by_reading b settings answer (Read parts end) e sound = by_answer b settings parts end answer e sound
 by_reading b settings answer (Refused fault at) e sound = absurd cc
 by_reading b settings answer Wanting e sound = absurd cc

@@ -13,7 +13,7 @@ use Rattle.extract_core.specs.declared.errors.ExtractError.{ExtractError}
 use Rattle.extract_core.specs.declared.errors.ExtractError.TheVariants as errors
 use Rattle.extract_core.specs.declared.slots.Slots.{Slots}
 use Rattle.extract_core.specs.Extracted.{OpenBody, last_slot, slot_read, slot_width, unit_fault}
-use Rattle.extract_core.specs.Slots.{TakesSlot, TakesUnit, UnitFails, body_of, first_byte, unit_read}
+use Rattle.extract_core.specs.Slots.{TakesSlot, TakesUnit, UnitFails, slots_body, first_byte, unit_read}
 
 -- no slot has the number
 pub slot_behind : (b : OpenBody) (slot : ℕ) → last_slot < slot → slot_read b slot ≡ Wanting
@@ -26,9 +26,9 @@ slot_alone b slot h = rw (le-ltb last_slot slot h) refl
 
 -- a slot is the unit at its offset of the file
 slot_there : (s : Slots) (told : List ℕ) (slot width : ℕ) → slot ≤ last_slot → width ≡ slot_width s.content
-    → slot_read (body_of s (drop s.begin told)) slot ≡ unit_read s (slot + 1) (drop (s.begin + slot * width) told)
+    → slot_read (slots_body s (drop s.begin told)) slot ≡ unit_read s (slot + 1) (drop (s.begin + slot * width) told)
 slot_there s told slot width h is =
-    slot_alone (body_of s (drop s.begin told)) slot h
+    slot_alone (slots_body s (drop s.begin told)) slot h
     ∙ ap (λ (b : List ℕ). unit_read s (slot + 1) b) (drop-drop (slot * slot_width s.content) s.begin told)
     ∙ ap (λ (w : ℕ). unit_read s (slot + 1) (drop (s.begin + slot * w) told)) (sym is)
 
@@ -54,7 +54,7 @@ takes_slot s new before after name slot width (Ok last) h is takes = record {
 takes_slot s new before after name slot width (Err error) h is takes = tt
 
 fails_there : (s : Slots) (before after : ShelfState) (name : List ℕ) (slot width : ℕ) (error : ExtractError) → slot ≤ last_slot → width ≡ slot_width s.content
-    → UnitFails (λ told. unit_read s (slot + 1) (drop (s.begin + slot * width) told)) before after name error → UnitFails (λ told. slot_read (body_of s (drop s.begin told)) slot) before after name error
+    → UnitFails (λ told. unit_read s (slot + 1) (drop (s.begin + slot * width) told)) before after name error → UnitFails (λ told. slot_read (slots_body s (drop s.begin told)) slot) before after name error
 fails_there s before after name slot width (errors.Fault fault) h is fails = (fails.0, λ told holds. ap unit_fault (slot_there s told slot width h is) ∙ fails.1 told holds)
 fails_there s before after name slot width (errors.Outside outsides.SourceFault) h is fails = fails
 fails_there s before after name slot width (errors.Outside outsides.SinkFault) h is fails = fails
@@ -66,6 +66,6 @@ fails_there s before after name slot width errors.Memory h is fails = fails
 
 pub fails_slot : (s : Slots) (before after : ShelfState) (name : List ℕ) (slot width : ℕ) (r : Result Bool ExtractError) → slot ≤ last_slot → width ≡ slot_width s.content
     → IfErr r (UnitFails (λ told. unit_read s (slot + 1) (drop (s.begin + slot * width) told)) before after name)
-    → IfErr r (UnitFails (λ told. slot_read (body_of s (drop s.begin told)) slot) before after name)
+    → IfErr r (UnitFails (λ told. slot_read (slots_body s (drop s.begin told)) slot) before after name)
 fails_slot s before after name slot width (Ok last) h is fails = tt
 fails_slot s before after name slot width (Err error) h is fails = fails_there s before after name slot width error h is fails

@@ -28,25 +28,25 @@ use Rattle.extract_core.specs.declared.errors.ExtractError.{ExtractError}
 use Rattle.extract_core.specs.declared.errors.ExtractError.TheVariants as errors
 use Rattle.extract_core.specs.declared.slots.Slots.{Slots}
 use Rattle.extract_core.specs.Extracted.{slot_width, unit_fault}
-use Rattle.extract_core.specs.Slots.{IsRead, IsThere, IsWithin, NeedsBytes, ReadsUnit, ReadsWidth, SameBody, StandsAt, TakesMore, TakesNone, TakesOn, TakesUnit, UnitFails, head_room, is_last, known, least_room, piece_at, read_count, unit_reach, unit_read}
+use Rattle.extract_core.specs.Slots.{IsUnitRead, IsThere, HoldsNoMore, NeedsBytes, ReadsUnit, ReadsWidth, SlotsKeepBody, SlotsStandAt, TakesMore, TakesNoSlot, TakesOn, TakesUnit, UnitFails, head_room, is_last, known, least_room, piece_at, slots_read_count, unit_reach, unit_read}
 use Rattle.stream_open.proofs.WholeUnits.{head_stays}
 use Rattle.extract_core.proofs.Heads.{IsHead, frame_room, is_head, least_within, one_block, opened_short, width_room}
 
 -- The bytes of the unit that came so far are held, and what is read ahead stands behind them.
 pub record IsTaking (old now : Slots) (before after : ShelfState) (name : List ℕ) (at want : ℕ) : Type 0 where
-  pub same : SameBody old now
+  pub same : SlotsKeepBody old now
   pub files : after.files ≡ before.files
   pub grown : Grows before.calls after.calls
   pub faults : after.faults ≡ before.faults
-  pub given : after.given ≤ before.given + read_count now
-  pub room : (told : List ℕ) → IsSeenAs before after name told → read_count now ≤ head_room old.content (known old want (drop at told))
-  pub stands : (told : List ℕ) → IsSeenAs before after name told → StandsAt now told at
-  pub within : IsWithin now want now.unit.held
+  pub given : after.given ≤ before.given + slots_read_count now
+  pub room : (told : List ℕ) → IsSeenAs before after name told → slots_read_count now ≤ head_room old.content (known old want (drop at told))
+  pub stands : (told : List ℕ) → IsSeenAs before after name told → SlotsStandAt now told at
+  pub within : HoldsNoMore now want now.unit.held
 
 -- nothing is held, and nothing is read ahead
-pub begins : (old now : Slots) (s : ShelfState) (name : List ℕ) (at want : ℕ) → SameBody old now → now.unit.held ≡ [] → now.ahead ≡ [] → IsTaking old now s s name at want
+pub begins : (old now : Slots) (s : ShelfState) (name : List ℕ) (at want : ℕ) → SlotsKeepBody old now → now.unit.held ≡ [] → now.ahead ≡ [] → IsTaking old now s s name at want
 begins old now s name at want same held ahead =
-    let none : read_count now ≡ 0 = omega (arith, ap length held, ap length ahead) in
+    let none : slots_read_count now ≡ 0 = omega (arith, ap length held, ap length ahead) in
     let here : at + 0 ≡ at = omega arith in
     record {
       same = same;
@@ -59,7 +59,7 @@ begins old now s name at want same held ahead =
       within = λ head is. omega (arith, ap length held);
     }
 
-pub same_same : (a b c : Slots) → SameBody a b → SameBody b c → SameBody a c
+pub same_same : (a b c : Slots) → SlotsKeepBody a b → SlotsKeepBody b c → SlotsKeepBody a c
 same_same a b c first second = record {
   key = second.key ∙ first.key;
   id = second.id ∙ first.id;
@@ -69,13 +69,13 @@ same_same a b c first second = record {
 }
 
 -- what is known and read of bytes is the same of the same body
-same_known : (a b : Slots) (want : ℕ) (bytes : List ℕ) → SameBody a b → known b want bytes ≡ known a want bytes
+same_known : (a b : Slots) (want : ℕ) (bytes : List ℕ) → SlotsKeepBody a b → known b want bytes ≡ known a want bytes
 same_known a b want bytes same = rw (same.content, same.max_unit) refl
 
-pub same_read : (a b : Slots) (want : ℕ) (bytes : List ℕ) → SameBody a b → unit_read b want bytes ≡ unit_read a want bytes
+pub same_read : (a b : Slots) (want : ℕ) (bytes : List ℕ) → SlotsKeepBody a b → unit_read b want bytes ≡ unit_read a want bytes
 same_read a b want bytes same = rw (same.content, same.max_unit, same.key, same.id) refl
 
-within_same : (a b : Slots) (want : ℕ) (held grown : List ℕ) → SameBody a b → grown ≡ held → IsWithin a want held → IsWithin b want grown
+within_same : (a b : Slots) (want : ℕ) (held grown : List ℕ) → SlotsKeepBody a b → grown ≡ held → HoldsNoMore a want held → HoldsNoMore b want grown
 within_same a b want held grown same is within = λ head e.
     let inside = within head (sym (same_known a b want held same) ∙ ap (λ (l : List ℕ). known b want l) (sym is) ∙ e) in omega (arith, inside, ap length is)
 
@@ -90,15 +90,15 @@ fails_from before mid after name files faults (inl rose) = inl (omega (arith, ro
 fails_from before mid after name files faults (inr missing) = inr (ap (λ (f : Option Files). is_missing f name) (sym files) ∙ missing.0, missing.1 ∙ faults)
 
 -- the file has what is held, and more
-held_front : (s : Slots) (told : List ℕ) (at : ℕ) → StandsAt s told at → drop at told ≡ s.unit.held ++ (s.ahead ++ drop (at + read_count s) told)
-held_front s told at stands = stands.front ∙ append_assoc s.unit.held s.ahead (drop (at + read_count s) told)
+held_front : (s : Slots) (told : List ℕ) (at : ℕ) → SlotsStandAt s told at → drop at told ≡ s.unit.held ++ (s.ahead ++ drop (at + slots_read_count s) told)
+held_front s told at stands = stands.front ∙ append_assoc s.unit.held s.ahead (drop (at + slots_read_count s) told)
 
 -- how much is read of the unit, more of the file being read
 read_room : (old l new : Slots) (before mid after : ShelfState) (name : List ℕ) (at want end : ℕ) → IsTaking old l before mid name at want → TakesOn l new mid after name at end → NeedsBytes l want end
-    → (told : List ℕ) → IsSeenAs before after name told → read_count new ≤ head_room old.content (known old want (drop at told))
+    → (told : List ℕ) → IsSeenAs before after name told → slots_read_count new ≤ head_room old.content (known old want (drop at told))
 read_room old l new before mid after name at want end taking on needs told h =
     let early : IsSeenAs before mid name told = seen_first before mid after name told taking.grown on.grown h in
-    let more : List ℕ = l.ahead ++ drop (at + read_count l) told in
+    let more : List ℕ = l.ahead ++ drop (at + slots_read_count l) told in
     let there : drop at told ≡ l.unit.held ++ more = held_front l told at (taking.stands told early) in
     let same : head_room l.content (known l want (l.unit.held ++ more)) ≡ head_room old.content (known old want (drop at told)) =
     ap (λ (b : List ℕ). head_room l.content (known l want b)) (sym there) ∙ ap (head_room l.content) (same_known old l want (drop at told) taking.same)
@@ -106,7 +106,7 @@ read_room old l new before mid after name at want end taking on needs told h =
     omega (arith, taking.room told early, on.reach, needs.room more, same, width_least l.content, least_within l.content (known l want (l.unit.held ++ more)))
 
 read_stands : (old l new : Slots) (before mid after : ShelfState) (name : List ℕ) (at want end : ℕ) → IsTaking old l before mid name at want → TakesOn l new mid after name at end
-    → (told : List ℕ) → IsSeenAs before after name told → StandsAt new told at
+    → (told : List ℕ) → IsSeenAs before after name told → SlotsStandAt new told at
 read_stands old l new before mid after name at want end taking on told h = on.stands told (seen_second before mid after name told taking.files taking.grown on.grown h) (taking.stands told (seen_first before mid after name told taking.grown on.grown h))
 
 -- more bytes of the unit are held
@@ -148,7 +148,7 @@ refused_head old now before after name at want fault taking e =
 
 -- the file ends, or a read fails
 pub none_taken : (old l new : Slots) (before mid after : ShelfState) (name : List ℕ) (at want end : ℕ) (error : ExtractError) → IsTaking old l before mid name at want → NeedsBytes l want end
-    → TakesOn l new mid after name at end → TakesNone l mid after name at error → UnitFails (λ told. unit_read old want (drop at told)) before after name error
+    → TakesOn l new mid after name at end → TakesNoSlot l mid after name at error → UnitFails (λ told. unit_read old want (drop at told)) before after name error
 none_taken old l new before mid after name at want end (errors.Fault fault) taking needs on none = (
   none.1 ∙ taking.faults,
   λ told h.
@@ -179,7 +179,7 @@ closed_there old now before after name at want head taking there closed =
     refused_there old now before after name at want (UnitTag head.number) _ taking (unit_is now want head None there closed)
 
 opened_read : (s : Slots) (want : ℕ) (held more bytes text : List ℕ) (head : UnitHead) (last : Bool) → unit_read s want held ≡ whole_reading head held (Some text) → last ≡ is_last head.kind
-    → bytes ≡ held ++ more → IsRead (unit_read s want bytes) last text
+    → bytes ≡ held ++ more → IsUnitRead (unit_read s want bytes) last text
 opened_read s want held more bytes text head last e last_is is = record {
   next = followed (past (unit_size head) (start held)) more;
   is = ap (λ (b : List ℕ). unit_read s want b) is
@@ -187,14 +187,14 @@ opened_read s want held more bytes text head last e last_is is = record {
       ∙ ap (λ (p : Piece). Read p (followed (past (unit_size head) (start held)) more)) (piece_is head.kind text last last_is);
 }
 
-read_of_same : (old now : Slots) (want : ℕ) (bytes text : List ℕ) (last : Bool) → SameBody old now → IsRead (unit_read now want bytes) last text → IsRead (unit_read old want bytes) last text
+read_of_same : (old now : Slots) (want : ℕ) (bytes text : List ℕ) (last : Bool) → SlotsKeepBody old now → IsUnitRead (unit_read now want bytes) last text → IsUnitRead (unit_read old want bytes) last text
 read_of_same old now want bytes text last same read = record { next = read.next; is = sym (same_read old now want bytes same) ∙ read.is }
 
 -- where others follow the unit, no more than a slot's width was read for it
 width_read : (old now : Slots) (before after : ShelfState) (name : List ℕ) (at want : ℕ) (head : UnitHead) (last : Bool) → IsTaking old now before after name at want → IsThere now want head
     → last ≡ is_last head.kind → ReadsWidth old.content before after name last
 width_read old now before after name at want head last taking there last_is others told h =
-    let more : List ℕ = now.ahead ++ drop (at + read_count now) told in
+    let more : List ℕ = now.ahead ++ drop (at + slots_read_count now) told in
     let known_is : known old want (drop at told) ≡ heads.Unit head =
     sym (same_known old now want (drop at told) taking.same) ∙ ap (λ (b : List ℕ). known now want b) (held_front now told at (taking.stands told h))
     ∙ head_stays now.content want now.max_unit now.unit.held more head there.known in
@@ -222,16 +222,16 @@ opened_there old now new before after name at want head last taking there opens 
 
 -- ---- how much is read
 
-reach_is : (content : Content) (want : ℕ) (max_unit : Option ℕ) (s : Slots) (told : List ℕ) (at : ℕ) → read_count s ≤ head_room content (head_of content want max_unit (drop at told)) → StandsAt s told at
-    → read_count s ≤ unit_reach content max_unit (drop at told)
+reach_is : (content : Content) (want : ℕ) (max_unit : Option ℕ) (s : Slots) (told : List ℕ) (at : ℕ) → slots_read_count s ≤ head_room content (head_of content want max_unit (drop at told)) → SlotsStandAt s told at
+    → slots_read_count s ≤ unit_reach content max_unit (drop at told)
 reach_is Single want max_unit s told at room stands =
     let one = ap (head_room Single) (one_block want max_unit (drop at told)) in
-    omega (arith, room, one, ap length stands.front, length-append (s.unit.held ++ s.ahead) (drop (at + read_count s) told), length-append s.unit.held s.ahead)
+    omega (arith, room, one, ap length stands.front, length-append (s.unit.held ++ s.ahead) (drop (at + slots_read_count s) told), length-append s.unit.held s.ahead)
 reach_is (Framed frame) want max_unit s told at room stands =
     let most = frame_room frame want max_unit (drop at told) (head_of (Framed frame) want max_unit (drop at told)) refl in omega (arith, room, most)
 
 -- where nothing more was read than what is taken
-pub reads_so_far : (old now new : Slots) (before after : ShelfState) (name : List ℕ) (at want : ℕ) → IsTaking old now before after name at want → SameBody now new → ReadsUnit old new before after name at
+pub reads_so_far : (old now new : Slots) (before after : ShelfState) (name : List ℕ) (at want : ℕ) → IsTaking old now before after name at want → SlotsKeepBody now new → ReadsUnit old new before after name at
 reads_so_far old now new before after name at want taking same = record {
   same = same_same old now new taking.same same;
   files = taking.files;
@@ -253,7 +253,7 @@ reads_on old l new before mid after name at want end taking on needs = record {
       omega (arith, taking.given, on.given, on.on, most);
 }
 
-pub same_as_is : (s : Slots) → SameBody s s
+pub same_as_is : (s : Slots) → SlotsKeepBody s s
 same_as_is s = record { key = refl; id = refl; content = refl; max_unit = refl; begin = refl }
 
 -- ---- what opening answers

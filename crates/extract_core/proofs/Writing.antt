@@ -22,7 +22,7 @@ use Rattle.extract_core.specs.declared.errors.ExtractError.{ExtractError}
 use Rattle.extract_core.specs.declared.errors.ExtractError.TheVariants as errors
 use Rattle.extract_core.specs.declared.slots.Slots.{Slots}
 use Rattle.extract_core.specs.Extracted.{ByteRange, Extraction, OpenBody, extracted_body, first_slot, in_range, slot_count, slot_part, slot_read, slot_width, slots_taken, unit_content, unit_fault}
-use Rattle.extract_core.specs.Slots.{FindsFault, IsRead, IsSized, OnBody, PartFails, RangeFails, ReadsSlot, SameBody, SlotFails, TakesSlot, UnitFails, WritesRange, WritesSlot, body_in, first_byte, range_reach, unit_reach}
+use Rattle.extract_core.specs.Slots.{SlotsFindFault, IsUnitRead, ContentIsSized, OnBody, PartFails, RangeFails, ReadsSlot, SlotsKeepBody, SlotFails, TakesSlot, UnitFails, WritesRange, WritesSlot, body_in, first_byte, range_reach, unit_reach}
 use Rattle.extract_core.proofs.Definition.{AreGood, begins_part, ends_at, ends_behind, fault_ends, not_zero, nothing_in_range, of_nothing, parts_before, parts_next, taken_all, taken_least}
 use Rattle.extract_core.proofs.Taking.{fails_from, same_same}
 
@@ -32,7 +32,7 @@ whole_front a b xs gained = (length xs, subst (Appends a b) (sym (take_all (leng
 
 -- The slots before this one are good ones that others follow, their parts were written, and so many bytes are in them.
 pub record IsWriting (old now : Slots) (range : ByteRange) (before after : ShelfState) (name : List ℕ) (output put : SinkState) (slot written : ℕ) : Type 0 where
-  pub same : SameBody old now
+  pub same : SlotsKeepBody old now
   pub empty : now.unit.held ≡ []
   pub files : after.files ≡ before.files
   pub grown : Grows before.calls after.calls
@@ -65,27 +65,27 @@ begins s range shelf name output slot empty is = record {
 
 -- ---- one slot
 
-body_same : (a b : Slots) (told : List ℕ) → SameBody a b → body_in b told ≡ body_in a told
+body_same : (a b : Slots) (told : List ℕ) → SlotsKeepBody a b → body_in b told ≡ body_in a told
 body_same a b told same = rw (same.content, same.max_unit, same.key, same.id, same.begin) refl
 
 -- what is read at the slot, of the body as it was
-read_same : (old l : Slots) (told out : List ℕ) (slot : ℕ) (last : Bool) → SameBody old l → IsRead (slot_read (body_in l told) slot) last out → IsRead (slot_read (body_in old told) slot) last out
-read_same old l told out slot last same read = subst (λ (b : OpenBody). IsRead (slot_read b slot) last out) (body_same old l told same) read
+read_same : (old l : Slots) (told out : List ℕ) (slot : ℕ) (last : Bool) → SlotsKeepBody old l → IsUnitRead (slot_read (body_in l told) slot) last out → IsUnitRead (slot_read (body_in old told) slot) last out
+read_same old l told out slot last same read = subst (λ (b : OpenBody). IsUnitRead (slot_read b slot) last out) (body_same old l told same) read
 
-content_is : (r : Reading Piece) (last : Bool) (out : List ℕ) → IsRead r last out → unit_content r ≡ out
+content_is : (r : Reading Piece) (last : Bool) (out : List ℕ) → IsUnitRead r last out → unit_content r ≡ out
 content_is r true out read = ap unit_content read.is
 content_is r false out read = ap unit_content read.is
 
-none_wrong : (r : Reading Piece) (last : Bool) (out : List ℕ) → IsRead r last out → unit_fault r ≡ None
+none_wrong : (r : Reading Piece) (last : Bool) (out : List ℕ) → IsUnitRead r last out → unit_fault r ≡ None
 none_wrong r last out read = ap unit_fault read.is
 
-more_is : (r : Reading Piece) (out : List ℕ) → IsRead r false out → is_more r ≡ true
+more_is : (r : Reading Piece) (out : List ℕ) → IsUnitRead r false out → is_more r ≡ true
 more_is r out read = ap is_more read.is
 
-last_is : (r : Reading Piece) (out : List ℕ) → IsRead r true out → is_more r ≡ false
+last_is : (r : Reading Piece) (out : List ℕ) → IsUnitRead r true out → is_more r ≡ false
 last_is r out read = ap is_more read.is
 
-part_is : (b : OpenBody) (range : ByteRange) (slot : ℕ) (last : Bool) (out : List ℕ) → IsRead (slot_read b slot) last out → slot_part b range slot ≡ in_range range (first_byte b.content slot) out
+part_is : (b : OpenBody) (range : ByteRange) (slot : ℕ) (last : Bool) (out : List ℕ) → IsUnitRead (slot_read b slot) last out → slot_part b range slot ≡ in_range range (first_byte b.content slot) out
 part_is b range slot last out read = ap (in_range range (first_byte b.content slot)) (content_is (slot_read b slot) last out read)
 
 -- how many bytes of a content are in the range
@@ -93,7 +93,7 @@ pub part_length : (range : ByteRange) (first : ℕ) (out : List ℕ) → length 
 part_length range first out = length-drop (range.at - first) (take (range.at + range.count - first) out) ∙ ap (λ (n : ℕ). n - (range.at - first)) (length-take (range.at + range.count - first) out)
 
 -- the bytes written are no more than those before the next slot
-few_next : (content : Content) (range : ByteRange) (out : List ℕ) (slot written n : ℕ) → IsSized content false out → written ≤ first_byte content slot - range.at
+few_next : (content : Content) (range : ByteRange) (out : List ℕ) (slot written n : ℕ) → ContentIsSized content false out → written ≤ first_byte content slot - range.at
     → n ≡ length (in_range range (first_byte content slot) out) → written + n ≤ first_byte content (slot + 1) - range.at
 few_next Single range out slot written n sized few is = absurd (let no : false ≡ true = sized.single refl in cc)
 few_next (Framed frame) range out slot written n sized few is =
@@ -147,8 +147,8 @@ given_next old l new range before mid after name output put slot written w reads
     let same : unit_reach l.content l.max_unit (drop l.begin told) ≡ unit_reach old.content old.max_unit (drop old.begin told) = rw (w.same.content, w.same.max_unit, w.same.begin) refl in
     omega (arith, w.given told (seen_first before mid after name told w.grown reads.grown h), more, same)
 
-sized_same : (old l : Slots) (last : Bool) (out : List ℕ) → SameBody old l → IsSized l.content last out → IsSized old.content last out
-sized_same old l last out same sized = subst (λ (c : Content). IsSized c last out) same.content sized
+sized_same : (old l : Slots) (last : Bool) (out : List ℕ) → SlotsKeepBody old l → ContentIsSized l.content last out → ContentIsSized old.content last out
+sized_same old l last out same sized = subst (λ (c : Content). ContentIsSized c last out) same.content sized
 
 -- a slot more that another one follows
 pub writes_on : (old l new : Slots) (range : ByteRange) (before mid after : ShelfState) (name : List ℕ) (output put put2 : SinkState) (slot written n : ℕ)
@@ -265,7 +265,7 @@ body_later s before mid after name so first second is = λ told h. is told (seen
 fault_at : (old l : Slots) (range : ByteRange) (before mid after : ShelfState) (name : List ℕ) (output put : SinkState) (slot written : ℕ) (fault : Fault)
     → IsWriting old l range before mid name output put slot written → Grows mid.calls after.calls → ((told : List ℕ) → IsSeenAs mid after name told → unit_fault (slot_read (body_in l told) slot) ≡ Some fault)
     → 1 ≤ range.count → slot < first_slot old.content range + slot_count old.content range
-    → OnBody old before after name (λ b. FindsFault b range output put fault)
+    → OnBody old before after name (λ b. SlotsFindFault b range output put fault)
 fault_at old l range before mid after name output put slot written fault w grown faulty some within = λ told h.
     let early : IsSeenAs before mid name told = seen_first before mid after name told w.grown grown h in
     let b : OpenBody = body_in old told in

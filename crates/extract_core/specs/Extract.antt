@@ -15,7 +15,7 @@ use Rattle.suite_table.specs.declared.suite.Suite.{Suite}
 use Rattle.suite_table.specs.declared.suite.Suite.TheVariants.{Committing, Uncommitted}
 use Rattle.header_codec.specs.declared.settings.Settings.{Settings}
 use Rattle.header_codec.specs.Header.{HeaderValue}
-use Rattle.header_codec.specs.Table.{BeginsWith, Head, header}
+use Rattle.header_codec.specs.Table.{BeginsWith, HeaderFields, header}
 use Rattle.keyring_trait.specs.declared.manager_errors.ManagerError.TheVariants as managers
 use Rattle.keyring_trait.specs.Unlocking.{Unlocking, Refuses, Unlocks}
 use Rattle.message_format.specs.Judgement.{header_of, lock_fault}
@@ -27,7 +27,7 @@ use Rattle.header_input.specs.declared.errors.NoHeader.TheVariants as headers
 use Rattle.whole_input.specs.declared.pieces.End.TheVariants as ends
 use Rattle.whole_input.specs.FileReads.{IsSeenAs}
 use Rattle.whole_input.specs.Pieces.{most_piece}
-use Rattle.esdk_decrypt.specs.Decrypt.{AnswersTo, Asked}
+use Rattle.esdk_decrypt.specs.Decrypt.{AnswersTo, DecryptAsked}
 use Rattle.extract_core.specs.declared.errors.ExtractError.{ExtractError}
 use Rattle.extract_core.specs.declared.errors.ExtractError.TheVariants as errors
 use Rattle.extract_core.specs.Extracted.{ByteRange, OpenBody, body_behind, extracted, slot_count}
@@ -46,7 +46,7 @@ OnFile old new name so = (bytes : List ℕ) → IsSeenAs old new name bytes → 
 
 -- how many bytes are read for a header at the most: up to a piece behind it, or behind its fault;
 -- and of a header that isn't whole all there is
-abbrev pub header_reach : List ℕ → Reading Head → ℕ
+abbrev pub header_reach : List ℕ → Reading HeaderFields → ℕ
 header_reach bytes (Read parts body) = body.at + most_piece
 header_reach bytes (Refused fault at) = at + most_piece
 header_reach bytes Wanting = length bytes
@@ -55,7 +55,7 @@ abbrev pub most_header : Settings → List ℕ → ℕ
 most_header settings bytes = header_reach bytes (header settings (start bytes))
 
 -- how many are read behind it: those of the slots that the range names
-abbrev pub named_reach : Settings → ByteRange → Reading Head → ℕ
+abbrev pub named_reach : Settings → ByteRange → Reading HeaderFields → ℕ
 named_reach settings range (Read parts body) =
     slots_reach parts.content settings.max_unit range body.left (slot_count parts.content range)
 named_reach settings range (Refused fault at) = 0
@@ -76,7 +76,7 @@ answer_reach settings range h body (Refuses fault) = 0
 answer_reach settings range h body (Unlocks whole only key) =
     lock_reach range (body_behind settings h key body.left) (lock_fault h only key)
 
-abbrev pub taken_reach : List ℕ → Settings → Unlocking → ByteRange → Reading Head → ℕ
+abbrev pub taken_reach : List ℕ → Settings → Unlocking → ByteRange → Reading HeaderFields → ℕ
 taken_reach bytes settings answer range (Read parts body) =
     answer_reach settings range (header_of bytes parts) body answer
 taken_reach bytes settings answer range (Refused fault at) = 0
@@ -84,8 +84,8 @@ taken_reach bytes settings answer range Wanting = 0
 
 -- How many bytes are read of a file at the most, when the manager answers so to its header: those
 -- for the header, and of the slots only those that are taken.
-unfoldable pub most_taken : List ℕ → Settings → Unlocking → ByteRange → ℕ
-most_taken bytes settings answer range = most_header settings bytes
+unfoldable pub most_bytes_read : List ℕ → Settings → Unlocking → ByteRange → ℕ
+most_bytes_read bytes settings answer range = most_header settings bytes
     + taken_reach bytes settings answer range (header settings (start bytes))
 
 -- ---- the header
@@ -114,7 +114,7 @@ pub record HasHeader (settings : Settings) (old new : ShelfState) (name : List �
   pub given : new.given ≤ old.given + body_begin h + most_piece
 
 -- the fault of a header that was read so; one that isn't whole is M10
-abbrev pub header_fault_at_end : Reading Head → Option Fault
+abbrev pub header_fault_at_end : Reading HeaderFields → Option Fault
 header_fault_at_end (Read parts body) = None
 header_fault_at_end (Refused fault at) = Some fault
 header_fault_at_end Wanting = Some Truncated
@@ -134,7 +134,7 @@ HasNoHeader settings old new name errors.Memory = new.faults ≡ old.faults
 
 -- The answer is the manager's to the header of these bytes; what is extracted then was written, so
 -- many bytes, and no fault ends it. No more was read than the header and the slots that are taken.
-pub record WritesAll (asked : Asked) (range : ByteRange) (old new : ShelfState)
+pub record WritesAll (asked : DecryptAsked) (range : ByteRange) (old new : ShelfState)
     (output put : SinkState) (written : ℕ) (bytes : List ℕ) : Type 0 where
   pub answer : Unlocking
   pub answered : AnswersTo asked.manager asked.settings asked.given bytes answer
@@ -142,54 +142,58 @@ pub record WritesAll (asked : Asked) (range : ByteRange) (old new : ShelfState)
   pub gained : Appends output.written put.written
       (extracted bytes asked.settings answer range).part
   pub count : written ≡ length (extracted bytes asked.settings answer range).part
-  pub read : new.given ≤ old.given + most_taken bytes asked.settings answer range
+  pub read : new.given ≤ old.given + most_bytes_read bytes asked.settings answer range
 
 -- The answer is the manager's to the header of these bytes; what is extracted then was written, and
 -- this fault ends it. No more was read than the header and the slots that are taken.
-pub record WritesBefore (asked : Asked) (range : ByteRange) (old new : ShelfState)
+pub record WritesBefore (asked : DecryptAsked) (range : ByteRange) (old new : ShelfState)
     (output put : SinkState) (fault : Fault) (bytes : List ℕ) : Type 0 where
   pub answer : Unlocking
   pub answered : AnswersTo asked.manager asked.settings asked.given bytes answer
   pub fault_is : (extracted bytes asked.settings answer range).fault ≡ Some fault
   pub gained : Appends output.written put.written
       (extracted bytes asked.settings answer range).part
-  pub read : new.given ≤ old.given + most_taken bytes asked.settings answer range
+  pub read : new.given ≤ old.given + most_bytes_read bytes asked.settings answer range
 
 -- The answer is the manager's to the header of these bytes, and a front of what is extracted then
 -- was written. No more was read than the header and the slots that are taken.
-pub record WritesFront (asked : Asked) (range : ByteRange) (old new : ShelfState)
+pub record ExtractWritesFront (asked : DecryptAsked) (range : ByteRange) (old new : ShelfState)
     (output put : SinkState) (bytes : List ℕ) : Type 0 where
   pub answer : Unlocking
   pub answered : AnswersTo asked.manager asked.settings asked.given bytes answer
   pub gained : AppendsFront output.written put.written
       (extracted bytes asked.settings answer range).part
-  pub read : new.given ≤ old.given + most_taken bytes asked.settings answer range
+  pub read : new.given ≤ old.given + most_bytes_read bytes asked.settings answer range
 
 -- The shelf has the file; the range of its content was written, and that is so many bytes.
-pub record Extracts (asked : Asked) (range : ByteRange) (old new : ShelfState) (name : List ℕ)
+pub record Extracts (asked : DecryptAsked) (range : ByteRange) (old new : ShelfState)
+    (name : List ℕ)
     (output put : SinkState) (written : ℕ) : Type 0 where
   pub there : is_missing old.files name ≡ false
   pub writes : OnFile old new name (WritesAll asked range old new output put written)
 
 -- The shelf has the file, and no read failed; its header, the answer or a slot of the range has
 -- this fault. What stands before it in the range was written.
-pub record HasFault (asked : Asked) (range : ByteRange) (old new : ShelfState) (name : List ℕ)
+pub record ExtractFindsFault (asked : DecryptAsked) (range : ByteRange) (old new : ShelfState)
+    (name : List ℕ)
     (output put : SinkState) (fault : Fault) : Type 0 where
   pub there : is_missing old.files name ≡ false
   pub faults : new.faults ≡ old.faults
   pub writes : OnFile old new name (WritesBefore asked range old new output put fault)
 
 -- The shelf has the file, and no read failed; the output failed at a front of the range.
-pub record SinkFails (asked : Asked) (range : ByteRange) (old new : ShelfState) (name : List ℕ)
+pub record ExtractSinkFails (asked : DecryptAsked) (range : ByteRange) (old new : ShelfState)
+    (name : List ℕ)
     (output put : SinkState) : Type 0 where
   pub there : is_missing old.files name ≡ false
   pub faults : new.faults ≡ old.faults
   pub rose : Rose output.faults put.faults
-  pub writes : OnFile old new name (WritesFront asked range old new output put)
+  pub writes : OnFile old new name (ExtractWritesFront asked range old new output put)
 
 -- The file has a header, and the manager failed when it was asked about it: its count of faults
 -- rose. Nothing was written, and behind the header up to a piece was read.
-pub record ManagerFails (asked : Asked) (old new : ShelfState) (name : List ℕ) (unwritten : Type 0)
+pub record ExtractManagerFails (asked : DecryptAsked) (old new : ShelfState) (name : List ℕ)
+    (unwritten : Type 0)
     : Type 0 where
   pub header : HeaderValue
   pub has : HasHeader asked.settings old new name header
@@ -198,23 +202,24 @@ pub record ManagerFails (asked : Asked) (old new : ShelfState) (name : List ℕ)
 
 -- Nothing was written, or a front of the range; where the shelf tells that it has no file of the
 -- name, nothing.
-pub record WritesLess (asked : Asked) (range : ByteRange) (old new : ShelfState) (name : List ℕ)
+pub record WritesLess (asked : DecryptAsked) (range : ByteRange) (old new : ShelfState)
+    (name : List ℕ)
     (output put : SinkState) (unwritten : Type 0) : Type 0 where
-  pub front : unwritten ⊎ OnFile old new name (WritesFront asked range old new output put)
+  pub front : unwritten ⊎ OnFile old new name (ExtractWritesFront asked range old new output put)
   pub missing : is_missing old.files name ≡ true → unwritten
 
 -- Why a range isn't extracted, and what that left; `unwritten` says that the output is as before.
 -- Want of memory is free, but it doesn't come behind a read that failed.
-abbrev pub ExtractEnds : Asked → ByteRange → ShelfState → ShelfState → List ℕ → SinkState
+abbrev pub ExtractEnds : DecryptAsked → ByteRange → ShelfState → ShelfState → List ℕ → SinkState
     → SinkState → Type 0 → ExtractError → Type 0
 ExtractEnds asked range old new name output put unwritten (errors.Fault fault) =
-    HasFault asked range old new name output put fault
+    ExtractFindsFault asked range old new name output put fault
 ExtractEnds asked range old new name output put unwritten (errors.Outside outsides.ShelfFault) =
     FailsToRead old new name × WritesLess asked range old new name output put unwritten
 ExtractEnds asked range old new name output put unwritten (errors.Outside outsides.SinkFault) =
-    SinkFails asked range old new name output put
+    ExtractSinkFails asked range old new name output put
 ExtractEnds asked range old new name output put unwritten (errors.Outside outsides.KeyringFault) =
-    ManagerFails asked old new name unwritten
+    ExtractManagerFails asked old new name unwritten
 ExtractEnds asked range old new name output put unwritten (errors.Outside outside) = ⊥
 ExtractEnds asked range old new name output put unwritten errors.Memory =
     (new.faults ≡ old.faults) × WritesLess asked range old new name output put unwritten
@@ -228,7 +233,7 @@ unheaded_as (headers.End ends.Failed) = errors.Outside outsides.ShelfFault
 unheaded_as (headers.End ends.TooLong) = errors.Memory
 unheaded_as headers.Memory = errors.Memory
 
-abbrev pub locked_as : UnlockError → ExtractError
-locked_as (locks.Fault fault) = errors.Fault fault
-locked_as locks.KeyringFault = errors.Outside outsides.KeyringFault
-locked_as locks.Memory = errors.Memory
+abbrev pub extract_locked_as : UnlockError → ExtractError
+extract_locked_as (locks.Fault fault) = errors.Fault fault
+extract_locked_as locks.KeyringFault = errors.Outside outsides.KeyringFault
+extract_locked_as locks.Memory = errors.Memory

@@ -2,7 +2,8 @@
 -- from there on; what stands before the first of them or behind the last isn't looked at.
 -- Standard: AWS Encryption SDK Specification, message body, "Framed Data" and "Nonframed Data"; the
 -- faults are this library's.
-use Rattle.std.specs.Prelude.{ℕ, ◌+◌, ◌-◌, ◌*◌, ◌/◌, List, [], take, drop, min, ◌==◌, nat_lt, if◌then◌else◌, Option, Some, None}
+use Rattle.std.specs.Prelude.{ℕ, ◌+◌, ◌-◌, ◌*◌, ◌/◌, List, [], take, drop, min, ◌==◌, nat_lt}
+use Rattle.std.specs.Prelude.{if◌then◌else◌, Option, Some, None}
 use Rattle.std.specs.List.{flat_map, prefix_len, range_with_len}
 use Rattle.esdk_fields.specs.declared.contents.Content.{Content}
 use Rattle.esdk_fields.specs.declared.contents.Content.TheVariants.{Single, Framed}
@@ -12,7 +13,7 @@ use Rattle.esdk_fields.specs.Place.{Place, start}
 use Rattle.esdk_fields.specs.Reading.{Reading, Read, Refused, Wanting}
 use Rattle.header_codec.specs.declared.settings.Settings.{Settings}
 use Rattle.header_codec.specs.Header.{HeaderValue, frame_length}
-use Rattle.header_codec.specs.Table.{Head, header}
+use Rattle.header_codec.specs.Table.{HeaderFields, header}
 use Rattle.suite_table.specs.Keys.{derived}
 use Rattle.frame_codec.specs.Unit.{Piece, More, Last, unit}
 use Rattle.body_format.specs.Rows.{is_more}
@@ -131,7 +132,8 @@ extracted_header settings range h body (Refuses fault) = nothing (Some fault)
 extracted_header settings range h body (Unlocks whole only key) =
     extracted_lock range (body_behind settings h key body.left) (lock_fault h only key)
 
-abbrev pub extracted_reading : List ℕ → Settings → Unlocking → ByteRange → Reading Head → Extraction
+abbrev pub extracted_reading : List ℕ → Settings → Unlocking → ByteRange → Reading HeaderFields
+    → Extraction
 extracted_reading bytes settings unlocking range (Refused fault at) = nothing (Some fault)
 extracted_reading bytes settings unlocking range Wanting = nothing (Some Truncated)
 extracted_reading bytes settings unlocking range (Read parts body) =

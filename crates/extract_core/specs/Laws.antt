@@ -1,6 +1,7 @@
 -- What is extracted, by the judgement of all bytes. Standard: AWS Encryption SDK Specification,
 -- "Decrypt".
-use Rattle.std.specs.Prelude.{◌≡◌, ◌⊎◌, ℕ, ◌+◌, ◌*◌, ◌≤◌, ◌<◌, List, length, drop, Option, Some, None}
+use Rattle.std.specs.Prelude.{◌≡◌, ◌⊎◌, ℕ, ◌+◌, ◌*◌, ◌≤◌, ◌<◌, List, length, drop, Option, Some}
+use Rattle.std.specs.Prelude.{None}
 use Rattle.std.specs.List.{concat}
 use Rattle.esdk_fields.specs.declared.contents.Content.{Content}
 use Rattle.esdk_fields.specs.declared.faults.Fault.{Fault}
@@ -13,12 +14,14 @@ use Rattle.keyring_trait.specs.Unlocking.{Unlocking, Unlocks}
 use Rattle.body_format.specs.declared.verdicts.Verdict.TheVariants.{Whole}
 use Rattle.message_format.specs.Judgement.{content, judged, lock_fault}
 use Rattle.extract_core.specs.Extract.{IsHeaderOf, body_begin}
-use Rattle.extract_core.specs.Extracted.{ByteRange, OpenBody, body_behind, extracted, first_slot, in_range, slots_taken}
+use Rattle.extract_core.specs.Extracted.{ByteRange, OpenBody, body_behind, extracted, first_slot}
+use Rattle.extract_core.specs.Extracted.{in_range, slots_taken}
 
 -- ---- where each slot that is taken has a unit
 
 -- These bytes begin with this header, which the answer unlocks.
-pub record IsUnlocked (bytes : List ℕ) (settings : Settings) (answer : Unlocking) (h : HeaderValue)
+pub record HeaderIsUnlocked (bytes : List ℕ) (settings : Settings) (answer : Unlocking)
+    (h : HeaderValue)
     (key : List ℕ) : Type 0 where
   pub header : IsHeaderOf settings h bytes
   pub whole : List KeyValue
@@ -42,7 +45,7 @@ IsOfContent bytes settings answer range = extracted bytes settings answer range 
 abbrev pub ExtractsTheContent : Type 0
 ExtractsTheContent = (bytes : List ℕ) (settings : Settings) (answer : Unlocking)
     (range : ByteRange) (h : HeaderValue) (key : List ℕ) → AreBytes bytes
-    → IsUnlocked bytes settings answer h key
+    → HeaderIsUnlocked bytes settings answer h key
     → first_slot h.content range + slots_taken (body_at bytes settings h key) range
     ≤ length (judged bytes settings answer).units
     → IsOfContent bytes settings answer range

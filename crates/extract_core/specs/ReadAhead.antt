@@ -31,9 +31,9 @@ ReadsAhead old new name at most bytes (Err error) =
     FailsToRead old new name × (new.given ≡ old.given) × (bytes ≡ [])
 
 -- what a read into the front of a buffer comes to
-abbrev pub ReadsFront : {E : Type 0} → ShelfState → ShelfState → List ℕ → ℕ → ℕ → List ℕ
+abbrev pub ReadsIntoFront : {E : Type 0} → ShelfState → ShelfState → List ℕ → ℕ → ℕ → List ℕ
     → Result ℕ E → Type 0
-ReadsFront old new name at room buffer (Ok count) =
+ReadsIntoFront old new name at room buffer (Ok count) =
     Comes old new name at room (take count buffer) × (length (take count buffer) ≡ count)
-ReadsFront old new name at room buffer (Err error) =
+ReadsIntoFront old new name at room buffer (Err error) =
     FailsToRead old new name × (new.given ≡ old.given)

@@ -1,6 +1,8 @@
 -- What is so while slots are read and opened one after another. Standard: AWS Encryption SDK
 -- Specification, message body.
-use Rattle.std.specs.Prelude.{◌≡◌, ◌⊎◌, ℕ, ◌+◌, ◌-◌, ◌*◌, ◌^◌, ◌<◌, ◌≤◌, max, min, List, [], ◌++◌, length, drop, Bool, true, false, ◌==◌, if◌then◌else◌, Option, Some, None}
+use Rattle.std.specs.Prelude.{◌≡◌, ◌⊎◌, ℕ, ◌+◌, ◌-◌, ◌*◌, ◌^◌, ◌<◌, ◌≤◌, max, min, List, [], ◌++◌}
+use Rattle.std.specs.Prelude.{length, drop, Bool, true, false, ◌==◌, if◌then◌else◌, Option, Some}
+use Rattle.std.specs.Prelude.{None}
 use Rattle.std.specs.Io.KnownBytes.{Appends}
 use Rattle.esdk_fields.specs.Counts.{Rose}
 use Rattle.esdk_fields.specs.declared.contents.Content.{Content}
@@ -29,13 +31,14 @@ use Rattle.extract_core.specs.declared.slots.Needs.TheVariants as needs
 use Rattle.extract_core.specs.declared.slots.Slots.{Slots}
 use Rattle.header_codec.specs.Header.{IsContent, frame_length}
 use Rattle.message_format.specs.declared.unlocking.Unlocked.{Unlocked}
-use Rattle.extract_core.specs.Extracted.{ByteRange, OpenBody, extracted_body, in_range, last_slot, slot_read, slot_width, slots_taken, unit_fault}
+use Rattle.extract_core.specs.Extracted.{ByteRange, OpenBody, extracted_body, in_range, last_slot}
+use Rattle.extract_core.specs.Extracted.{slot_read, slot_width, slots_taken, unit_fault}
 
 -- ---- the body
 
 -- the body of these bytes, which the slots are opened of
-abbrev pub body_of : Slots → List ℕ → OpenBody
-body_of s bytes = record {
+abbrev pub slots_body : Slots → List ℕ → OpenBody
+slots_body s bytes = record {
   content = s.content;
   max_unit = s.max_unit;
   key = s.key;
@@ -45,10 +48,10 @@ body_of s bytes = record {
 
 -- the body in a file of these bytes
 abbrev pub body_in : Slots → List ℕ → OpenBody
-body_in s told = body_of s (drop s.begin told)
+body_in s told = slots_body s (drop s.begin told)
 
 -- It is the same body of the same message.
-pub record SameBody (old new : Slots) : Type 0 where
+pub record SlotsKeepBody (old new : Slots) : Type 0 where
   pub key : new.key ≡ old.key
   pub id : new.message_id ≡ old.message_id
   pub content : new.content ≡ old.content
@@ -66,8 +69,8 @@ abbrev pub unit_read : Slots → ℕ → List ℕ → Reading Piece
 unit_read s want bytes = unit s.content s.max_unit s.key s.message_id want (start bytes)
 
 -- No byte behind the unit is held.
-abbrev pub IsWithin : Slots → ℕ → List ℕ → Type 0
-IsWithin s want held = (head : UnitHead) → known s want held ≡ heads.Unit head
+abbrev pub HoldsNoMore : Slots → ℕ → List ℕ → Type 0
+HoldsNoMore s want held = (head : UnitHead) → known s want held ≡ heads.Unit head
     → length held ≤ unit_size head
 
 -- how many bytes are read for a unit in any case: a slot's width, and of a single block its head
@@ -89,7 +92,7 @@ pub record NeedsBytes (s : Slots) (want end : ℕ) : Type 0 where
   pub room : (more : List ℕ) → end ≤ head_room s.content (known s want (s.unit.held ++ more))
   pub wanting : unit_read s want s.unit.held ≡ Wanting
   pub within : (bytes : List ℕ) → length (s.unit.held ++ bytes) ≤ end
-      → IsWithin s want (s.unit.held ++ bytes)
+      → HoldsNoMore s want (s.unit.held ++ bytes)
 
 -- The unit behind this head is there, and nothing behind it.
 pub record IsThere (s : Slots) (want : ℕ) (head : UnitHead) : Type 0 where
@@ -106,26 +109,26 @@ NeedsAre s want (needs.Nothing head) = IsThere s want head
 -- ---- its bytes
 
 -- how many bytes of the file were read, of those that are held or read ahead
-abbrev pub read_count : Slots → ℕ
-read_count s = length s.unit.held + length s.ahead
+abbrev pub slots_read_count : Slots → ℕ
+slots_read_count s = length s.unit.held + length s.ahead
 
 -- The bytes held, and those read ahead behind them, stand in the file from that offset on.
-pub record StandsAt (s : Slots) (told : List ℕ) (at : ℕ) : Type 0 where
-  pub front : drop at told ≡ (s.unit.held ++ s.ahead) ++ drop (at + read_count s) told
+pub record SlotsStandAt (s : Slots) (told : List ℕ) (at : ℕ) : Type 0 where
+  pub front : drop at told ≡ (s.unit.held ++ s.ahead) ++ drop (at + slots_read_count s) told
 
 -- More of the file may have been read, up to a slot's width or to this end of the unit, and what is
 -- held and read ahead still stands there.
 pub record TakesOn (old new : Slots) (before after : ShelfState) (name : List ℕ) (at end : ℕ)
     : Type 0 where
-  pub same : SameBody old new
+  pub same : SlotsKeepBody old new
   pub files : after.files ≡ before.files
   pub grown : Grows before.calls after.calls
   pub later : before.faults ≤ after.faults
-  pub on : read_count old ≤ read_count new
-  pub given : after.given ≤ before.given + (read_count new - read_count old)
-  pub reach : read_count new ≤ max (read_count old) (max end (slot_width old.content))
-  pub stands : (told : List ℕ) → IsSeenAs before after name told → StandsAt old told at
-      → StandsAt new told at
+  pub on : slots_read_count old ≤ slots_read_count new
+  pub given : after.given ≤ before.given + (slots_read_count new - slots_read_count old)
+  pub reach : slots_read_count new ≤ max (slots_read_count old) (max end (slot_width old.content))
+  pub stands : (told : List ℕ) → IsSeenAs before after name told → SlotsStandAt old told at
+      → SlotsStandAt new told at
 
 -- More bytes are held, up to this end at the most, and no read failed.
 pub record TakesMore (old new : Slots) (before after : ShelfState) (end : ℕ) : Type 0 where
@@ -137,15 +140,15 @@ pub record TakesMore (old new : Slots) (before after : ShelfState) (end : ℕ) :
 
 -- Why no more bytes are held: the file ends behind those, or a read failed; or memory ran out, and
 -- no read failed.
-abbrev pub TakesNone : Slots → ShelfState → ShelfState → List ℕ → ℕ → ExtractError → Type 0
-TakesNone old before after name at (errors.Fault fault) = (fault ≡ Truncated)
+abbrev pub TakesNoSlot : Slots → ShelfState → ShelfState → List ℕ → ℕ → ExtractError → Type 0
+TakesNoSlot old before after name at (errors.Fault fault) = (fault ≡ Truncated)
     × (after.faults ≡ before.faults)
-    × ((told : List ℕ) → IsSeenAs before after name told → StandsAt old told at
+    × ((told : List ℕ) → IsSeenAs before after name told → SlotsStandAt old told at
     → drop at told ≡ old.unit.held)
-TakesNone old before after name at (errors.Outside outsides.ShelfFault) =
+TakesNoSlot old before after name at (errors.Outside outsides.ShelfFault) =
     FailsToRead before after name
-TakesNone old before after name at (errors.Outside outside) = ⊥
-TakesNone old before after name at errors.Memory = after.faults ≡ before.faults
+TakesNoSlot old before after name at (errors.Outside outside) = ⊥
+TakesNoSlot old before after name at errors.Memory = after.faults ≡ before.faults
 
 -- ---- its content
 
@@ -160,12 +163,12 @@ piece_at false content = More content
 piece_at true content = Last content
 
 -- What is read is this content.
-pub record IsRead (r : Reading Piece) (last : Bool) (content : List ℕ) : Type 0 where
+pub record IsUnitRead (r : Reading Piece) (last : Bool) (content : List ℕ) : Type 0 where
   pub next : Place
   pub is : r ≡ Read (piece_at last content) next
 
 -- A content has at most the frame length, and a single block is the last unit.
-pub record IsSized (content : Content) (last : Bool) (out : List ℕ) : Type 0 where
+pub record ContentIsSized (content : Content) (last : Bool) (out : List ℕ) : Type 0 where
   pub few : length out ≤ 2 ^ 37
   pub frame : (frame : ℕ) → content ≡ Framed frame → length out ≤ frame
   pub single : content ≡ Single → last ≡ true
@@ -186,11 +189,11 @@ ReadsWidth content before after name last = last ≡ false → (told : List ℕ)
 pub record TakesUnit (old new : Slots) (before after : ShelfState) (name : List ℕ) (at want : ℕ)
     (last : Bool) : Type 0 where
   pub read : (told : List ℕ) → IsSeenAs before after name told
-      → IsRead (unit_read old want (drop at told)) last new.unit.out
+      → IsUnitRead (unit_read old want (drop at told)) last new.unit.out
   pub empty : new.unit.held ≡ []
   pub faults : after.faults ≡ before.faults
   pub grown : Grows before.calls after.calls
-  pub sized : IsSized old.content last new.unit.out
+  pub sized : ContentIsSized old.content last new.unit.out
   pub width : ReadsWidth old.content before after name last
 
 -- Why no unit is opened: what is read there isn't a good unit, and has this fault; or a read
@@ -207,7 +210,7 @@ UnitFails read before after name errors.Memory = after.faults ≡ before.faults
 -- What reading one unit at that offset leaves, however it ends.
 pub record ReadsUnit (old new : Slots) (before after : ShelfState) (name : List ℕ) (at : ℕ)
     : Type 0 where
-  pub same : SameBody old new
+  pub same : SlotsKeepBody old new
   pub files : after.files ≡ before.files
   pub grown : Grows before.calls after.calls
   pub later : before.faults ≤ after.faults
@@ -225,16 +228,16 @@ pub record TakesSlot (old new : Slots) (before after : ShelfState) (name : List 
     (last : Bool) : Type 0 where
   pub numbered : slot ≤ last_slot
   pub read : (told : List ℕ) → IsSeenAs before after name told
-      → IsRead (slot_read (body_of old (drop old.begin told)) slot) last new.unit.out
+      → IsUnitRead (slot_read (slots_body old (drop old.begin told)) slot) last new.unit.out
   pub empty : new.unit.held ≡ []
   pub faults : after.faults ≡ before.faults
   pub grown : Grows before.calls after.calls
-  pub sized : IsSized old.content last new.unit.out
+  pub sized : ContentIsSized old.content last new.unit.out
   pub width : ReadsWidth old.content before after name last
 
 -- what reading one slot leaves, however it ends
 pub record ReadsSlot (old new : Slots) (before after : ShelfState) (name : List ℕ) : Type 0 where
-  pub same : SameBody old new
+  pub same : SlotsKeepBody old new
   pub files : after.files ≡ before.files
   pub grown : Grows before.calls after.calls
   pub later : before.faults ≤ after.faults
@@ -286,7 +289,8 @@ pub record WritesRange (b : OpenBody) (range : ByteRange) (output put : SinkStat
   pub count : written ≡ length (extracted_body b range).part
 
 -- The part of the range that stands before a fault was written.
-pub record FindsFault (b : OpenBody) (range : ByteRange) (output put : SinkState) (fault : Fault)
+pub record SlotsFindFault (b : OpenBody) (range : ByteRange) (output put : SinkState)
+    (fault : Fault)
     : Type 0 where
   pub fault_is : (extracted_body b range).fault ≡ Some fault
   pub gained : Appends output.written put.written (extracted_body b range).part
@@ -319,7 +323,7 @@ abbrev pub RangeFails : Slots → ByteRange → ShelfState → ShelfState → Li
     → SinkState → ExtractError → Type 0
 RangeFails s range before after name output put (errors.Fault fault) =
     (after.faults ≡ before.faults)
-    × OnBody s before after name (λ b. FindsFault b range output put fault)
+    × OnBody s before after name (λ b. SlotsFindFault b range output put fault)
 RangeFails s range before after name output put (errors.Outside outsides.ShelfFault) =
     FailsToRead before after name
     × OnBody s before after name (WritesFrontOf range output put)

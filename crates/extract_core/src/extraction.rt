@@ -5,7 +5,9 @@ ghost use Rattle.esdk_decrypt.specs.Decrypt.{asked_from};
 ghost use Rattle.esdk_decrypt.specs.Underway.{BearsOnce};
 ghost use Rattle.keyring_trait.specs.Manager.{Went};
 ghost use Rattle.whole_input.specs.FileReads.{Grows};
-ghost use Rattle.extract_core.specs.Extract.{ExtractEnds, Extracts, HasHeader, HasNoHeader, OnFile, body_begin, locked_as, most_header, most_read, range_of, unheaded_as};
+ghost use Rattle.extract_core.specs.Extract.{ExtractEnds, Extracts, HasHeader, HasNoHeader, OnFile};
+ghost use Rattle.extract_core.specs.Extract.{body_begin, extract_locked_as, most_header, most_read};
+ghost use Rattle.extract_core.specs.Extract.{range_of, unheaded_as};
 
 use crate::errors::ExtractError;
 use crate::slots::Slots;
@@ -146,7 +148,7 @@ fn unheaded_as(error: NoHeader) -> ExtractError
 
 /// What it is called that a header isn't unlocked.
 fn locked_as(error: UnlockError) -> ExtractError
-    ensures { result ≡ locked_as error }
+    ensures { result ≡ extract_locked_as error }
 {
     match error {
         UnlockError::Fault(fault) => ExtractError::Fault(fault),

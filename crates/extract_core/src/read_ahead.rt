@@ -2,7 +2,7 @@
 
 ghost use Rattle.std.specs.Prelude.{◌≡◌, ◌≤◌, [], drop, length, IfOk};
 ghost use Rattle.whole_input.specs.FileReads.{Grows};
-ghost use Rattle.extract_core.specs.ReadAhead.{ReadsAhead, ReadsFront};
+ghost use Rattle.extract_core.specs.ReadAhead.{ReadsAhead, ReadsIntoFront};
 
 use esdk_base::{Failed, Shelf};
 use std::alloc::{AllocError, Global};
@@ -102,7 +102,7 @@ fn read_front<F: Shelf>(
 ) -> Result<usize, Failed>
     requires some { 1 ≤ room }
     requires room { room ≤ length buffer.old }
-    ensures reads { ReadsFront (F.state shelf.old) (F.state shelf.new) name.now at room
+    ensures reads { ReadsIntoFront (F.state shelf.old) (F.state shelf.new) name.now at room
         buffer.new result }
     ensures files { (F.state shelf.new).files ≡ (F.state shelf.old).files }
     ensures later { (F.state shelf.old).faults ≤ (F.state shelf.new).faults }

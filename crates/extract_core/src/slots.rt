@@ -1,6 +1,7 @@
 //! The slots of a body, which are read and opened one after another.
 
-ghost use Rattle.std.specs.Prelude.{◌≡◌, ◌+◌, ◌<◌, ◌≤◌, ◌^◌, ℕ, [], drop, length, Some, None, IfOk, IfErr};
+ghost use Rattle.std.specs.Prelude.{◌≡◌, ◌+◌, ◌<◌, ◌≤◌, ◌^◌, ℕ, [], drop, length, Some, None, IfOk};
+ghost use Rattle.std.specs.Prelude.{IfErr};
 ghost use Rattle.std.specs.Io.KnownBytes.{Appends};
 ghost use Rattle.esdk_base.specs.Sink.{AppendsFront};
 ghost use Rattle.esdk_fields.specs.Counts.{Rose};
@@ -12,8 +13,13 @@ ghost use Rattle.frame_codec.specs.UnitHead.{longest_block};
 ghost use Rattle.header_codec.specs.Header.{IsContent, frame_length};
 ghost use Rattle.whole_input.specs.FileReads.{Grows};
 ghost use Rattle.extract_core.specs.declared.errors.ExtractError.TheVariants as errors;
-ghost use Rattle.extract_core.specs.Extracted.{first_slot, in_range, slot_count, slot_read, slot_width};
-ghost use Rattle.extract_core.specs.Slots.{AreSlotsOf, IsWithin, NeedsAre, OnBody, RangeFails, ReadsSlot, ReadsUnit, SameBody, SlotFails, TakesMore, TakesNone, TakesOn, TakesSlot, TakesUnit, UnitFails, WritesRange, WritesSlot, body_in, first_byte, is_last, range_reach, unit_read};
+ghost use Rattle.extract_core.specs.Extracted.{first_slot, in_range, slot_count, slot_read};
+ghost use Rattle.extract_core.specs.Extracted.{slot_width};
+ghost use Rattle.extract_core.specs.Slots.{AreSlotsOf, HoldsNoMore, NeedsAre, OnBody, RangeFails};
+ghost use Rattle.extract_core.specs.Slots.{ReadsSlot, ReadsUnit, SlotsKeepBody, SlotFails};
+ghost use Rattle.extract_core.specs.Slots.{TakesMore, TakesNoSlot, TakesOn, TakesSlot, TakesUnit};
+ghost use Rattle.extract_core.specs.Slots.{UnitFails, WritesRange, WritesSlot, body_in, first_byte};
+ghost use Rattle.extract_core.specs.Slots.{is_last, range_reach, unit_read};
 
 use crate::errors::ExtractError;
 use crate::read_ahead::ReadAhead;
@@ -100,7 +106,7 @@ impl Slots {
 
     /// What the open unit of this number needs.
     fn needs(&self, want: u32) -> Needs
-        requires { IsWithin self.now want self.now.unit.held }
+        requires { HoldsNoMore self.now want self.now.unit.held }
         ensures { NeedsAre self.now want result }
     {
         let held = self.unit.held();
@@ -138,7 +144,7 @@ impl Slots {
         ensures unit { self.new.unit ≡ self.old.unit }
         ensures some { IfOk result (λ _. (1 ≤ length self.new.ahead)
             × ((F.state shelf.new).faults ≡ (F.state shelf.old).faults)) }
-        ensures none { IfErr result (TakesNone self.old (F.state shelf.old) (F.state shelf.new)
+        ensures none { IfErr result (TakesNoSlot self.old (F.state shelf.old) (F.state shelf.new)
             name.now at) }
     {
         let held = self.unit.held().len();
@@ -170,7 +176,7 @@ impl Slots {
             at end }
         ensures more { IfOk result (λ _. TakesMore self.old self.new (F.state shelf.old)
             (F.state shelf.new) end) }
-        ensures none { IfErr result (TakesNone self.old (F.state shelf.old) (F.state shelf.new)
+        ensures none { IfErr result (TakesNoSlot self.old (F.state shelf.old) (F.state shelf.new)
             name.now at) }
     {
         if self.ahead.bytes().is_empty() {
@@ -192,7 +198,7 @@ impl Slots {
         ensures empty { IfOk result (λ _. self.new.unit.held ≡ []) }
         ensures fault { IfErr result (λ e. (e ≡ errors.Fault (UnitTag head.now.number))
             × (opened_of self.old.key self.old.message_id head.now self.old.unit.held ≡ None)) }
-        ensures same { SameBody self.old self.new }
+        ensures same { SlotsKeepBody self.old self.new }
     {
         let is_right = self.unit.open(&mut self.key, self.message_id.bytes(), head);
         if is_right {

@@ -13,7 +13,7 @@ use Rattle.frame_codec.specs.declared.unit_heads.UnitHead.{UnitHead}
 use Rattle.frame_codec.specs.declared.unit_heads.Head.TheVariants as heads
 use Rattle.frame_codec.specs.UnitHead.{frame_start, block_start, unit_head, head_of}
 use Rattle.frame_codec.specs.Unit.{Piece, opened_unit, unit}
-use Rattle.frame_codec.specs.Rows.{number_at, long_number_at, HasFault, OtherNumber, OtherFinalNumber, LongFinal, LongBlock, LimitedBlock, HasWrongTag}
+use Rattle.frame_codec.specs.Rows.{number_at, long_number_at, UnitHasFault, OtherNumber, OtherFinalNumber, LongFinal, LongBlock, LimitedBlock, HasWrongTag}
 use Rattle.esdk_fields.proofs.Limited.{over_limit, limit_over}
 use Rattle.frame_codec.proofs.Fields.{place}
 use Rattle.frame_codec.proofs.Steps.{after_head}
@@ -25,7 +25,7 @@ use Rattle.frame_codec.proofs.Answering.{refused_answer, unit_answer}
 
 -- ---- fields before the content
 
-names : (content : Content) (want : ℕ) (max_unit : Option ℕ) (bytes : List ℕ) (fault : Fault) (at : ℕ) → HasFault content want max_unit bytes fault at
+names : (content : Content) (want : ℕ) (max_unit : Option ℕ) (bytes : List ℕ) (fault : Fault) (at : ℕ) → UnitHasFault content want max_unit bytes fault at
     → unit_head content want max_unit (start bytes) ≡ Refused fault at
 unfolding unit_head
 names content want max_unit bytes fault at (OtherNumber size is long unmarked other fault_is end) = rw (is, fault_is, end) (number_refused want size bytes long unmarked other 0)
@@ -39,7 +39,7 @@ same_refusal : (r : Reading UnitHead) (f g : Fault) (m n : ℕ) → r ≡ Refuse
 same_refusal r f g m n e h = (cc, cc)
 
 named : (content : Content) (want : ℕ) (max_unit : Option ℕ) (bytes : List ℕ) (fault : Fault) (at : ℕ) → unit_head content want max_unit (start bytes) ≡ Refused fault at
-    → HasFault content want max_unit bytes fault at
+    → UnitHasFault content want max_unit bytes fault at
 unfolding unit_head
 named contents.Single want max_unit bytes fault at e =
     let count = long_number_at 12 bytes in
@@ -66,7 +66,7 @@ named (contents.Framed size) want max_unit bytes fault at e =
     ]
 
 pub names_faults : (content : Content) (want : ℕ) (max_unit : Option ℕ) (bytes : List ℕ) (fault : Fault)
-    → (head_of content want max_unit bytes ≡ heads.Refused fault) ↔ ((at : ℕ) × HasFault content want max_unit bytes fault at)
+    → (head_of content want max_unit bytes ≡ heads.Refused fault) ↔ ((at : ℕ) × UnitHasFault content want max_unit bytes fault at)
 names_faults content want max_unit bytes fault = (
   λ e. let r = head_refuses content want max_unit bytes fault e in (0 + r.end, named content want max_unit bytes fault (0 + r.end) (r.is 0)),
   λ f. refused_answer content want max_unit bytes fault f.0 (names content want max_unit bytes fault f.0 f.1),
@@ -75,7 +75,7 @@ names_faults content want max_unit bytes fault = (
 -- ---- units that are refused
 
 refused : (content : Content) (max_unit : Option ℕ) (key id : List ℕ) (want : ℕ) (bytes : List ℕ) (fault : Fault) (at : ℕ)
-    → HasFault content want max_unit bytes fault at ⊎ HasWrongTag content want max_unit key id bytes fault at → unit content max_unit key id want (start bytes) ≡ Refused fault at
+    → UnitHasFault content want max_unit bytes fault at ⊎ HasWrongTag content want max_unit key id bytes fault at → unit content max_unit key id want (start bytes) ≡ Refused fault at
 unfolding unit
 refused content max_unit key id want bytes fault at (inl f) = ap (λ r. then_read r (after_head key id)) (names content want max_unit bytes fault at f)
 refused content max_unit key id want bytes fault at (inr t) =
@@ -115,7 +115,7 @@ tag_wrong content max_unit key id want bytes fault at head reads o is e =
         }
 
 refuses : (content : Content) (max_unit : Option ℕ) (key id : List ℕ) (want : ℕ) (bytes : List ℕ) (fault : Fault) (at : ℕ) → unit content max_unit key id want (start bytes) ≡ Refused fault at
-    → HasFault content want max_unit bytes fault at ⊎ HasWrongTag content want max_unit key id bytes fault at
+    → UnitHasFault content want max_unit bytes fault at ⊎ HasWrongTag content want max_unit key id bytes fault at
 unfolding unit
 refuses content max_unit key id want bytes fault at e =
     elim (then_is_refused (unit_head content want max_unit (start bytes)) (after_head key id) fault at e) [
@@ -129,5 +129,5 @@ refuses content max_unit key id want bytes fault at e =
     ]
 
 pub refuses_faulty : (content : Content) (max_unit : Option ℕ) (key id : List ℕ) (want : ℕ) (bytes : List ℕ) (fault : Fault) (at : ℕ)
-    → (unit content max_unit key id want (start bytes) ≡ Refused fault at) ↔ (HasFault content want max_unit bytes fault at ⊎ HasWrongTag content want max_unit key id bytes fault at)
+    → (unit content max_unit key id want (start bytes) ≡ Refused fault at) ↔ (UnitHasFault content want max_unit bytes fault at ⊎ HasWrongTag content want max_unit key id bytes fault at)
 refuses_faulty content max_unit key id want bytes fault at = (refuses content max_unit key id want bytes fault at, refused content max_unit key id want bytes fault at)

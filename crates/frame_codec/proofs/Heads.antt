@@ -5,7 +5,7 @@ use Rattle.esdk_fields.specs.declared.faults.Fault.TheVariants.{WrongSequence, F
 use Rattle.esdk_fields.specs.declared.contents.Content.{Content}
 use Rattle.esdk_fields.specs.declared.contents.Content.TheVariants as contents
 use Rattle.esdk_fields.specs.Place.{Place}
-use Rattle.esdk_fields.specs.Reading.{Reading, Read, Refused, Wanting, Reader}
+use Rattle.esdk_fields.specs.Reading.{Reading, Read, Refused, Wanting, FieldReader}
 use Rattle.frame_codec.specs.declared.unit_heads.UnitHead.{UnitHead}
 use Rattle.frame_codec.specs.declared.unit_heads.Head.TheVariants as heads
 use Rattle.frame_codec.specs.UnitHead.{unit_head, needed, head_from, head_of}
@@ -17,7 +17,7 @@ use Rattle.frame_codec.proofs.Ways.{Short, Other, Numbered, Regular, Marked, Fin
 -- ---- what stands before the content
 
 -- more bytes are wanted, a field is refused, or all of it is there
-pub data HeadWay (read : Reader UnitHead) (left : List ℕ) : Type 0 where
+pub data HeadWay (read : FieldReader UnitHead) (left : List ℕ) : Type 0 where
   Wants : ((at : ℕ) → read (place at left) ≡ Wanting) → HeadWay read left
   Refuses : (fault : Fault) (n : ℕ) → n ≤ length left → ((at : ℕ) → read (place at left) ≡ Refused fault (at + n)) → HeadWay read left
   Reads : (head : UnitHead) → head.size ≤ length left → 16 ≤ head.size → ((at : ℕ) → read (place at left) ≡ Read head (place (at + head.size) (drop head.size left))) → HeadWay read left

@@ -13,7 +13,7 @@ use Rattle.esdk_fields.proofs.Sequential.{IsSequential-bind, IsSequential-then, 
 use Rattle.frame_codec.specs.declared.unit_heads.UnitHead.{UnitHead}
 use Rattle.esdk_fields.specs.Limits.{is_over}
 use Rattle.frame_codec.specs.UnitHead.{final_mark, longest_block, regular_start, final_start, frame_start, block_start, unit_head}
-use Rattle.frame_codec.specs.Unit.{piece_of, opens, opened_unit, unit, Under, frame, block}
+use Rattle.frame_codec.specs.Unit.{piece_of, opens, opened_unit, unit, Under, frame, block_unit}
 use Rattle.frame_codec.proofs.Steps.{made_regular, made_final, made_block, after_length, after_iv, after_final_number, after_number, after_block_length, after_block_iv, after_tag, after_cipher, after_head}
 
 -- ---- what stands before the content
@@ -82,6 +82,6 @@ pub IsSequential-frame : (frame_length : ℕ) (u : Under) (k : ℕ) → IsSequen
 unfolding frame
 IsSequential-frame frame_length u k = IsSequential-unit (contents.Framed frame_length) None u.key u.id (k + 1)
 
-pub IsSequential-block : (max_unit : Option ℕ) (key id : List ℕ) → IsSequential (block max_unit key id)
-unfolding block
+pub IsSequential-block : (max_unit : Option ℕ) (key id : List ℕ) → IsSequential (block_unit max_unit key id)
+unfolding block_unit
 IsSequential-block max_unit key id = IsSequential-unit contents.Single max_unit key id 1

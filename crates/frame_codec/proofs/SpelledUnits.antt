@@ -18,10 +18,10 @@ use Rattle.frame_codec.specs.declared.unit_heads.UnitHead.{UnitHead}
 use Rattle.frame_codec.specs.UnitAad.{unit_aad}
 use Rattle.esdk_fields.specs.Limits.{is_over}
 use Rattle.frame_codec.specs.UnitHead.{final_mark, longest_block, unit_head}
-use Rattle.frame_codec.specs.Unit.{Piece, More, Last, piece_of, opened_unit, unit, block}
+use Rattle.frame_codec.specs.Unit.{Piece, More, Last, piece_of, opened_unit, unit, block_unit}
 use Rattle.frame_codec.specs.Written.{sealed_unit, single_block}
 use Rattle.frame_codec.specs.Rows.{number_at, long_number_at}
-use Rattle.frame_codec.specs.Spelled.{IsSpelled, RegularFrame, FinalFrame, SingleBlock}
+use Rattle.frame_codec.specs.Spelled.{UnitIsSpelled, RegularFrame, FinalFrame, SingleBlock}
 use Rattle.esdk_fields.proofs.Limited.{within_limit, limit_within}
 use Rattle.frame_codec.proofs.Fields.{place, first_number_there, read_once}
 use Rattle.frame_codec.proofs.Steps.{made_regular, made_final, made_block}
@@ -100,7 +100,7 @@ end_spelled key id bytes text piece end head r =
     }
 
 regular_spelled : (max_unit : Option ℕ) (key id : List ℕ) (want size : ℕ) (bytes text : List ℕ) (piece : Piece) (end : Place) → AreBytes bytes → number_at 0 bytes ≢ final_mark → number_at 0 bytes ≡ want
-    → ReadBehind key id bytes text piece end (made_regular want size (take 12 (drop 4 bytes))) → IsSpelled (contents.Framed size) max_unit key id want bytes piece end
+    → ReadBehind key id bytes text piece end (made_regular want size (take 12 (drop 4 bytes))) → UnitIsSpelled (contents.Framed size) max_unit key id want bytes piece end
 regular_spelled max_unit key id want size bytes text piece end fits unmarked same r =
     let iv = take 12 (drop 4 bytes) in
     let e = end_spelled key id bytes text piece end (made_regular want size iv) r in
@@ -117,7 +117,7 @@ regular_spelled max_unit key id want size bytes text piece end fits unmarked sam
 
 final_spelled : (max_unit : Option ℕ) (key id : List ℕ) (want size : ℕ) (bytes text : List ℕ) (piece : Piece) (end : Place) → AreBytes bytes
     → number_at 0 bytes ≡ final_mark → number_at 4 bytes ≡ want → number_at 20 bytes ≤ size
-    → ReadBehind key id bytes text piece end (made_final want (take 12 (drop 8 bytes)) (number_at 20 bytes)) → IsSpelled (contents.Framed size) max_unit key id want bytes piece end
+    → ReadBehind key id bytes text piece end (made_final want (take 12 (drop 8 bytes)) (number_at 20 bytes)) → UnitIsSpelled (contents.Framed size) max_unit key id want bytes piece end
 final_spelled max_unit key id want size bytes text piece end fits marked same within r =
     let iv = take 12 (drop 8 bytes) in
     let e = end_spelled key id bytes text piece end (made_final want iv (number_at 20 bytes)) r in
@@ -139,7 +139,7 @@ final_spelled max_unit key id want size bytes text piece end fits marked same wi
 
 block_spelled : (max_unit : Option ℕ) (key id : List ℕ) (want : ℕ) (bytes text : List ℕ) (piece : Piece) (end : Place) → AreBytes bytes
     → long_number_at 12 bytes ≤ longest_block → is_over max_unit (long_number_at 12 bytes) ≡ false
-    → ReadBehind key id bytes text piece end (made_block (take 12 bytes) (long_number_at 12 bytes)) → IsSpelled contents.Single max_unit key id want bytes piece end
+    → ReadBehind key id bytes text piece end (made_block (take 12 bytes) (long_number_at 12 bytes)) → UnitIsSpelled contents.Single max_unit key id want bytes piece end
 unfolding single_block
 block_spelled max_unit key id want bytes text piece end fits within under r =
     let iv = take 12 bytes in
@@ -161,7 +161,7 @@ behind content max_unit key id want bytes piece end head next r is =
     subst (λ (h : UnitHead). ReadBehind key id bytes r.text piece end h) head_is (record { long = r.long; good = r.good; piece_is = r.piece_is; after = r.after })
 
 spelled : (content : Content) (max_unit : Option ℕ) (key id : List ℕ) (want : ℕ) (bytes : List ℕ) (piece : Piece) (end : Place) → AreBytes bytes
-    → unit content max_unit key id want (start bytes) ≡ Read piece end → IsSpelled content max_unit key id want bytes piece end
+    → unit content max_unit key id want (start bytes) ≡ Read piece end → UnitIsSpelled content max_unit key id want bytes piece end
 unfolding unit_head
 spelled contents.Single max_unit key id want bytes piece end fits e =
     let r = unit_is_read contents.Single max_unit key id want (start bytes) piece end e in
@@ -191,9 +191,9 @@ spelled (contents.Framed size) max_unit key id want bytes piece end fits e =
 end_is : (end : Place) (n : ℕ) → end.at ≡ n → record { at = 0 + n; left = end.left } ≡ end
 end_is end n e = ap (λ (k : ℕ). place k end.left) (let same : 0 + n ≡ end.at = omega (arith, e) in same)
 
-read : (content : Content) (max_unit : Option ℕ) (key id : List ℕ) (want : ℕ) (bytes : List ℕ) (piece : Piece) (end : Place) → IsSpelled content max_unit key id want bytes piece end
+read : (content : Content) (max_unit : Option ℕ) (key id : List ℕ) (want : ℕ) (bytes : List ℕ) (piece : Piece) (end : Place) → UnitIsSpelled content max_unit key id want bytes piece end
     → unit content max_unit key id want (start bytes) ≡ Read piece end
-unfolding block
+unfolding block_unit
 read content max_unit key id want bytes piece end (RegularFrame iv text is low len text_is behind piece_is) =
     rw (is, text_is, piece_is) (regular_again max_unit key id want (length text) iv text end.left 0 low len refl ∙ ap (λ (q : Place). Read (More text) q) (end_is end (length text + 32) behind))
 read content max_unit key id want bytes piece end (FinalFrame size iv text is within short low len text_is behind piece_is) =
@@ -203,5 +203,5 @@ read content max_unit key id want bytes piece end (SingleBlock iv text is within
     (single_again max_unit key id want iv text end.left 0 len within (limit_within max_unit (length text) limit) ∙ ap (λ (q : Place). Read (Last text) q) (end_is end (length text + 36) behind))
 
 pub reads_spelled : (content : Content) (max_unit : Option ℕ) (key id : List ℕ) (want : ℕ) (bytes : List ℕ) (piece : Piece) (end : Place) → AreBytes bytes
-    → (unit content max_unit key id want (start bytes) ≡ Read piece end) ↔ IsSpelled content max_unit key id want bytes piece end
+    → (unit content max_unit key id want (start bytes) ≡ Read piece end) ↔ UnitIsSpelled content max_unit key id want bytes piece end
 reads_spelled content max_unit key id want bytes piece end fits = (spelled content max_unit key id want bytes piece end fits, read content max_unit key id want bytes piece end)

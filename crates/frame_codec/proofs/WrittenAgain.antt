@@ -14,7 +14,7 @@ use Rattle.frame_codec.specs.declared.unit_heads.UnitHead.{UnitHead}
 use Rattle.frame_codec.specs.UnitAad.{unit_aad, iv_of}
 use Rattle.esdk_fields.specs.Limits.{is_over}
 use Rattle.frame_codec.specs.UnitHead.{final_mark, longest_block, regular_start, final_start, frame_start, block_start, unit_head}
-use Rattle.frame_codec.specs.Unit.{More, Last, piece_of, opened_unit, unit, Under, frame, block}
+use Rattle.frame_codec.specs.Unit.{More, Last, piece_of, opened_unit, unit, Under, frame, block_unit}
 use Rattle.frame_codec.specs.Written.{sealed_unit, regular_head, final_head, regular_frame, final_frame, single_block}
 use Rattle.frame_codec.proofs.Ciphers.{length-sealed_cipher, length-sealed_tag, opened-sealed}
 use Rattle.frame_codec.proofs.Fields.{place, read_at}
@@ -127,8 +127,8 @@ unfolding frame final_frame final_head
 final_frame_again frame_length u k text rest at low within short = final_again None u.key u.id (k + 1) frame_length (iv_of (k + 1)) text rest at low (length-iv_of (k + 1)) within short
 
 pub single_block_again : (max_unit : Option ℕ) (key id iv text rest : List ℕ) (at : ℕ) → length iv ≡ 12 → length text ≤ longest_block → is_over max_unit (length text) ≡ false
-    → block max_unit key id (place at (single_block key id iv text ++ rest)) ≡ Read (Last text) (place (at + (length text + 36)) rest)
-unfolding block
+    → block_unit max_unit key id (place at (single_block key id iv text ++ rest)) ≡ Read (Last text) (place (at + (length text + 36)) rest)
+unfolding block_unit
 single_block_again max_unit key id iv text rest at len within limit = single_again max_unit key id 1 iv text rest at len within limit
 
 -- ---- their lengths

@@ -1,4 +1,5 @@
--- The data that is authenticated with a unit's content. Standard: AWS Encryption SDK Specification, message body AAD.
+-- The data that is authenticated with a unit's content. Standard: AWS Encryption SDK Specification,
+-- message body AAD.
 use Rattle.std.specs.Prelude.{ℕ, List, ◌++◌, codes, replicate}
 use Rattle.std.specs.Int.{w32, w64}
 use Rattle.esdk_fields.specs.Numbers.{to_big_endian}
@@ -13,8 +14,10 @@ kind_text Single = codes "AWSKMSEncryptionClient Single Block"
 
 -- message id, fixed text, sequence number, content length
 unfoldable pub unit_aad : List ℕ → UnitKind → ℕ → ℕ → List ℕ
-unit_aad id kind number size = id ++ kind_text kind ++ to_big_endian w32 number ++ to_big_endian w64 size
+unit_aad id kind number size =
+    id ++ kind_text kind ++ to_big_endian w32 number ++ to_big_endian w64 size
 
--- the initialization vector that a frame is written with: its sequence number, padded on the left with zeros to 12 bytes
+-- the initialization vector that a frame is written with: its sequence number, padded on the left
+-- with zeros to 12 bytes
 unfoldable pub iv_of : ℕ → List ℕ
 iv_of number = replicate 8 0 ++ to_big_endian w32 number

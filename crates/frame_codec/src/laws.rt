@@ -1,6 +1,10 @@
 //! Laws about units. A law is a function that does nothing: its contract is what is proved.
 
-ghost use Rattle.frame_codec.specs.Laws.{JudgesUnitsInOrder, ReadsSpelledUnits, RefusesFaultyUnits, AsksForMore, NamesFaults, DecidesWithNeededBytes, ReadsBackRegularFrames, ReadsBackFinalFrames, ReadsBackSingleBlocks, HaveOneSize, HasRegularSize, HasFinalSize, HasBlockSize, TellsUnitsApart};
+ghost use Rattle.frame_codec.specs.Laws.{JudgesUnitsInOrder, ReadsSpelledUnits, RefusesFaultyUnits};
+ghost use Rattle.frame_codec.specs.Laws.{AsksForMore, NamesFaults, DecidesWithNeededBytes};
+ghost use Rattle.frame_codec.specs.Laws.{ReadsBackRegularFrames, ReadsBackFinalFrames};
+ghost use Rattle.frame_codec.specs.Laws.{ReadsBackSingleBlocks, HaveOneSize, HasRegularSize};
+ghost use Rattle.frame_codec.specs.Laws.{HasFinalSize, HasBlockSize, TellsUnitsApart};
 ghost use Rattle.frame_codec.specs.InPlace.{ReadsInPlace};
 
 /// A fault stays when bytes follow, and comes with the last byte of its field, no earlier and no

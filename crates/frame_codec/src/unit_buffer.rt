@@ -1,6 +1,7 @@
 //! The buffer of one unit, which is opened where it lies.
 
-ghost use Rattle.std.specs.Prelude.{◌≡◌, ◌+◌, ◌-◌, ◌<◌, ◌≤◌, [], ◌++◌, length, take, min, true, false, None, Some, IfOk, OnErr, if◌then◌else◌};
+ghost use Rattle.std.specs.Prelude.{◌≡◌, ◌+◌, ◌-◌, ◌<◌, ◌≤◌, [], ◌++◌, length, take, min, true};
+ghost use Rattle.std.specs.Prelude.{false, None, Some, IfOk, OnErr, if◌then◌else◌};
 ghost use Rattle.frame_codec.specs.UnitHead.{longest_block};
 ghost use Rattle.frame_codec.specs.UnitBuffer.{opened_of};
 
@@ -33,7 +34,7 @@ pub struct UnitBuffer {
 
 impl Model for UnitBuffer {
     ghost use Rattle.std.specs.Prelude.{vec_capacity};
-    ghost use Rattle.frame_codec.specs.UnitBuffer.{UnitValue, FitsUnit, held_in, out_in};
+    ghost use Rattle.frame_codec.specs.UnitBuffer.{UnitValue, FitsUnit, held_in, unit_out};
 
     ghost Value = { UnitValue };
 
@@ -41,7 +42,7 @@ impl Model for UnitBuffer {
       reserved = u.reserved;
       held = held_in u.opened u.bytes.items;
       out =
-          out_in u.opened u.bytes.items;
+          unit_out u.opened u.bytes.items;
     } };
 
     ghost invariant = { λ u. FitsUnit u.opened u.reserved u.bytes.items (vec_capacity u.bytes) };

@@ -3,7 +3,9 @@
 ghost use Rattle.std.specs.Prelude.{◌≡◌, ◌≢◌, ◌<◌, ◌≤◌, length, IfOk};
 ghost use Rattle.esdk_fields.specs.Gives.{Gives, TakesNoMemory};
 ghost use Rattle.esdk_fields.specs.Limits.{is_over};
-ghost use Rattle.frame_codec.specs.UnitHead.{final_mark, longest_block, IfRegular, IfUnit, regular_start, final_start, frame_start, block_start, unit_head, needed, head_of};
+ghost use Rattle.frame_codec.specs.UnitHead.{final_mark, longest_block, IfRegular, IfUnit};
+ghost use Rattle.frame_codec.specs.UnitHead.{regular_start, final_start, frame_start, block_start};
+ghost use Rattle.frame_codec.specs.UnitHead.{unit_head, needed, head_of};
 
 use crate::kinds::UnitKind;
 use esdk_fields::{Content, Cursor, Fault, Stop, bytes_of, is_over, refused, u32_of, u64_of};

@@ -1,6 +1,7 @@
 //! Units as they are written.
 
-ghost use Rattle.std.specs.Prelude.{◌≡◌, ◌+◌, ◌-◌, ◌^◌, ◌<◌, ◌≤◌, length, Some, None, if◌then◌else◌, ◌==◌, IfOk};
+ghost use Rattle.std.specs.Prelude.{◌≡◌, ◌+◌, ◌-◌, ◌^◌, ◌<◌, ◌≤◌, length, Some, None};
+ghost use Rattle.std.specs.Prelude.{if◌then◌else◌, ◌==◌, IfOk};
 ghost use Rattle.frame_codec.specs.UnitHead.{final_mark};
 ghost use Rattle.frame_codec.specs.Written.{regular_head, final_head, single_block};
 

@@ -1,5 +1,6 @@
 -- Masks in a row, added to a text.
-use Rattle.std.specs.Prelude.{ℕ, ◌/◌, ◌%◌, List, [], length, map, slice_index, slice_index_or, bit_xor}
+use Rattle.std.specs.Prelude.{ℕ, ◌/◌, ◌%◌, List, [], length, map, slice_index, slice_index_or}
+use Rattle.std.specs.Prelude.{bit_xor}
 use Rattle.std.specs.List.{range_with_len}
 
 -- each byte of a text, and the byte at its place among masks of 16 bytes added

@@ -1,6 +1,7 @@
 //! Texts taken into the hash (SP 800-38D, section 7.1, steps 4 and 5).
 
-ghost use Rattle.std.specs.Prelude.{◌≡◌, ◌+◌, ◌-◌, ◌*◌, ◌^◌, ◌<◌, ◌≤◌, ◌++◌, length, map, slice_index};
+ghost use Rattle.std.specs.Prelude.{◌≡◌, ◌+◌, ◌-◌, ◌*◌, ◌^◌, ◌<◌, ◌≤◌, ◌++◌, length, map};
+ghost use Rattle.std.specs.Prelude.{slice_index};
 ghost use Rattle.std.specs.Int.{w128, from_be_bytes};
 ghost use Rattle.cipher_spec.specs.Ghash.{ghash_from};
 ghost use Rattle.cipher_spec.specs.Gcm.{block_at, blocks};

@@ -1,6 +1,7 @@
 //! A key for many texts.
 
-ghost use Rattle.std.specs.Prelude.{◌≡◌, ◌+◌, ◌-◌, ◌^◌, ◌≤◌, ◌++◌, false, length, if◌then◌else◌, Some, None, IfOk};
+ghost use Rattle.std.specs.Prelude.{◌≡◌, ◌+◌, ◌-◌, ◌^◌, ◌≤◌, ◌++◌, false, length, if◌then◌else◌};
+ghost use Rattle.std.specs.Prelude.{Some, None, IfOk};
 ghost use Rattle.cipher_spec.specs.Gcm.{opened, sealed};
 
 use crate::authentication::{begin_over, hasher_of};

@@ -1,6 +1,7 @@
 //! A key that opens many texts over the same associated data.
 
-ghost use Rattle.std.specs.Prelude.{◌≡◌, ◌+◌, ◌-◌, ◌^◌, ◌≤◌, false, length, if◌then◌else◌, Some, None};
+ghost use Rattle.std.specs.Prelude.{◌≡◌, ◌+◌, ◌-◌, ◌^◌, ◌≤◌, false, length, if◌then◌else◌, Some};
+ghost use Rattle.std.specs.Prelude.{None};
 ghost use Rattle.cipher_spec.specs.Gcm.{opened};
 
 use crate::authentication::{begin_over, hasher_of};

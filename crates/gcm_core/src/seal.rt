@@ -1,6 +1,7 @@
 //! Sealing and opening (SP 800-38D, sections 7.1 and 7.2).
 
-ghost use Rattle.std.specs.Prelude.{◌≡◌, ◌↔◌, ◌+◌, ◌-◌, ◌^◌, ◌≤◌, List, ℕ, ◌++◌, true, false, length, if◌then◌else◌, Some, None};
+ghost use Rattle.std.specs.Prelude.{◌≡◌, ◌↔◌, ◌+◌, ◌-◌, ◌^◌, ◌≤◌, List, ℕ, ◌++◌, true, false};
+ghost use Rattle.std.specs.Prelude.{length, if◌then◌else◌, Some, None};
 ghost use Rattle.std.specs.Int.{w32, to_be_bytes};
 ghost use Rattle.cipher_spec.specs.Ghash.{ghash, ghash_from};
 ghost use Rattle.cipher_spec.specs.Gcm.{blocks, gctr, hash_key, opened, sealed};

@@ -7,7 +7,7 @@ use Rattle.std.proofs.lemmas.Bool.{cases_lt}
 use Rattle.std.proofs.lemmas.List.{get_or_past}
 use Rattle.std.proofs.lemmas.Simd.{get_or-replicate}
 use Rattle.std.proofs.lemmas.Nat.{mod-pow-add, mul-le, pow-add, pow_pos, shl-shr, xor_comm, xor_mod, xor_shr}
-use Rattle.ghash_core.specs.Tables.{byte_of, folded, half_lanes, word}
+use Rattle.ghash_core.specs.Tables.{block_byte, folded, half_lanes, word}
 use Rattle.ghash_core.proofs.Lanes.{half_long, lane_of_half}
 use Rattle.ghash_core.proofs.Shifts.{folded_is, moved, moved-nothing, moved-sum, moved_over}
 use Rattle.ghash_core.proofs.Sums.{xor-shl, xsum, xsum-append, xsum-each, xsum-exchange, xsum-front, xsum-lt, xsum-more, xsum-none, xsum-same, xsum-shl, xsum-xor}
@@ -17,18 +17,18 @@ factors_exchanged a b c = mul_assoc a b c ∙ ap (λ n. a * n) (mul_comm b c) �
 
 -- ---- a number and its bytes
 
-pub bytes_summed : (n x : ℕ) → xsum n (λ k. byte_of x k * 2 ^ (8 * k)) ≡ x % 2 ^ (8 * n)
+pub bytes_summed : (n x : ℕ) → xsum n (λ k. block_byte x k * 2 ^ (8 * k)) ≡ x % 2 ^ (8 * n)
 bytes_summed zero x =
     let none : 0 ≡ x % 2 ^ (8 * 0) = omega arith in
-    xsum-none (λ k. byte_of x k * 2 ^ (8 * k)) ∙ none
+    xsum-none (λ k. block_byte x k * 2 ^ (8 * k)) ∙ none
 bytes_summed (suc n) x =
-    let f = λ (k : ℕ). byte_of x k * 2 ^ (8 * k) in
+    let f = λ (k : ℕ). block_byte x k * 2 ^ (8 * k) in
     let p = 2 ^ (8 * n) in
     let r = x % 2 ^ (8 * n) in
     let more : suc n ≡ n + 1 = omega arith in
     let e : 8 + 8 * n ≡ 8 * suc n = omega arith in
     let small : x % 2 ^ (8 * n) < 2 ^ (8 * n) = omega (arith, pow_pos (8 * n)) in
-    ap (λ k. xsum k f) more ∙ xsum-more n f ∙ ap (λ s. bit_xor s (f n)) (bytes_summed n x) ∙ xor_comm r (f n) ∙ xor_shifted (byte_of x n) (8 * n) r small ∙ sym (mod-pow-add x 8 (8 * n)) ∙ ap (λ k. x % 2 ^ k) e
+    ap (λ k. xsum k f) more ∙ xsum-more n f ∙ ap (λ s. bit_xor s (f n)) (bytes_summed n x) ∙ xor_comm r (f n) ∙ xor_shifted (block_byte x n) (8 * n) r small ∙ sym (mod-pow-add x 8 (8 * n)) ∙ ap (λ k. x % 2 ^ k) e
 
 -- the number of a list of bytes
 number_summed : (p : List ℕ) (n : ℕ) → length p ≡ n → ((i : ℕ) → get_or p i 0 < 256) → number_l 256 p ≡ xsum n (λ i. get_or p i 0 * 2 ^ (8 * i))
@@ -54,17 +54,17 @@ number_summed (x ∷ xs) (suc n) long small =
 
 -- byte e of 16 blocks as one number
 pub plane_number : (ℕ → ℕ) → ℕ → ℕ
-plane_number f e = xsum 16 (λ i. byte_of (f i) e * 2 ^ (8 * i))
+plane_number f e = xsum 16 (λ i. block_byte (f i) e * 2 ^ (8 * i))
 
 -- the number of a vector that has byte e of 16 blocks
-pub number_of_plane : (f : ℕ → ℕ) (e : ℕ) (p : List ℕ) → length p ≡ 16 → ((i : ℕ) → i < 16 → get_or p i 0 ≡ byte_of (f i) e) → number_l 256 p ≡ plane_number f e
+pub number_of_plane : (f : ℕ → ℕ) (e : ℕ) (p : List ℕ) → length p ≡ 16 → ((i : ℕ) → i < 16 → get_or p i 0 ≡ block_byte (f i) e) → number_l 256 p ≡ plane_number f e
 unfolding plane_number
 number_of_plane f e p long is =
     let small : (i : ℕ) → get_or p i 0 < 256 = λ i. elim (cases_lt i 16) [
-      | inl h ↦ let b : get_or p i 0 ≡ byte_of (f i) e = is i h in omega arith
+      | inl h ↦ let b : get_or p i 0 ≡ block_byte (f i) e = is i h in omega arith
       | inr g ↦ let b : get_or p i 0 ≡ 0 = get_or_past p i 0 (omega arith) in omega arith
     ] in
-    number_summed p 16 long small ∙ xsum-same 16 (λ i. get_or p i 0 * 2 ^ (8 * i)) (λ i. byte_of (f i) e * 2 ^ (8 * i)) (λ i h. ap (λ b. b * 2 ^ (8 * i)) (is i h))
+    number_summed p 16 long small ∙ xsum-same 16 (λ i. get_or p i 0 * 2 ^ (8 * i)) (λ i. block_byte (f i) e * 2 ^ (8 * i)) (λ i h. ap (λ b. b * 2 ^ (8 * i)) (is i h))
 
 byte_below : (b i : ℕ) → b < 256 → i < 16 → b * 2 ^ (8 * i) < 2 ^ 128
 byte_below b i small within =
@@ -78,7 +78,7 @@ byte_below b i small within =
 plane-lt : (f : ℕ → ℕ) (e : ℕ) → plane_number f e < 2 ^ 128
 unfolding plane_number
 plane-lt f e =
-    xsum-lt 128 16 (λ i. byte_of (f i) e * 2 ^ (8 * i)) (λ i h. byte_below (byte_of (f i) e) i (omega arith) h)
+    xsum-lt 128 16 (λ i. block_byte (f i) e * 2 ^ (8 * i)) (λ i h. byte_below (block_byte (f i) e) i (omega arith) h)
 
 -- ---- a sum of planes, each moved by a byte more than the one before it
 
@@ -92,7 +92,7 @@ lane_sum-none f o l = xsum-none (λ e. word (plane_number f (o + e)) l * 2 ^ (8 
 
 -- the step of `next`
 lane_sum-next : (f : ℕ → ℕ) (p : List ℕ) (o l k before after : ℕ) → k < 8 → length p ≡ 16
-    → ((i : ℕ) → i < 16 → get_or p i 0 ≡ byte_of (f i) (o + k))
+    → ((i : ℕ) → i < 16 → get_or p i 0 ≡ block_byte (f i) (o + k))
     → before ≡ lane_sum f o l k * 2 ^ (72 - 8 * k)
     → after ≡ bit_xor (before / 2 ^ 8) (word (number_l 256 p) l * 2 ^ 64)
     → after ≡ lane_sum f o l (k + 1) * 2 ^ (72 - 8 * (k + 1))
@@ -132,14 +132,14 @@ planes_joined f o =
 planes_exchanged : (f : ℕ → ℕ) → ((i : ℕ) → f i < 2 ^ 128) → xsum 16 (λ k. plane_number f k * 2 ^ (8 * k)) ≡ xsum 16 (λ i. f i * 2 ^ (8 * i))
 unfolding plane_number
 planes_exchanged f small =
-    let cell = λ (i k : ℕ). byte_of (f i) k * 2 ^ (8 * k) * 2 ^ (8 * i) in
-    let plane : (k : ℕ) → xsum 16 (λ i. byte_of (f i) k * 2 ^ (8 * i)) * 2 ^ (8 * k) ≡ xsum 16 (λ i. cell i k) = λ k.
-    xsum-shl 16 (8 * k) (λ i. byte_of (f i) k * 2 ^ (8 * i)) ∙ xsum-same 16 (λ i. byte_of (f i) k * 2 ^ (8 * i) * 2 ^ (8 * k)) (λ i. cell i k) (λ i h. factors_exchanged (byte_of (f i) k) (2 ^ (8 * i)) (2 ^ (8 * k))) in
+    let cell = λ (i k : ℕ). block_byte (f i) k * 2 ^ (8 * k) * 2 ^ (8 * i) in
+    let plane : (k : ℕ) → xsum 16 (λ i. block_byte (f i) k * 2 ^ (8 * i)) * 2 ^ (8 * k) ≡ xsum 16 (λ i. cell i k) = λ k.
+    xsum-shl 16 (8 * k) (λ i. block_byte (f i) k * 2 ^ (8 * i)) ∙ xsum-same 16 (λ i. block_byte (f i) k * 2 ^ (8 * i) * 2 ^ (8 * k)) (λ i. cell i k) (λ i h. factors_exchanged (block_byte (f i) k) (2 ^ (8 * i)) (2 ^ (8 * k))) in
     let block : (i : ℕ) → xsum 16 (λ k. cell i k) ≡ f i * 2 ^ (8 * i) = λ i.
     let h = small i in
     let all : f i % 2 ^ (8 * 16) ≡ f i = omega arith in
-    sym (xsum-shl 16 (8 * i) (λ k. byte_of (f i) k * 2 ^ (8 * k))) ∙ ap (λ n. n * 2 ^ (8 * i)) (bytes_summed 16 (f i) ∙ all) in
-    xsum-same 16 (λ k. xsum 16 (λ i. byte_of (f i) k * 2 ^ (8 * i)) * 2 ^ (8 * k)) (λ k. xsum 16 (λ i. cell i k)) (λ k h. plane k) ∙ xsum-exchange 16 16 (λ k i. cell i k) ∙ xsum-same 16 (λ i. xsum 16 (λ k. cell i k)) (λ i. f i * 2 ^ (8 * i)) (λ i h. block i)
+    sym (xsum-shl 16 (8 * i) (λ k. block_byte (f i) k * 2 ^ (8 * k))) ∙ ap (λ n. n * 2 ^ (8 * i)) (bytes_summed 16 (f i) ∙ all) in
+    xsum-same 16 (λ k. xsum 16 (λ i. block_byte (f i) k * 2 ^ (8 * i)) * 2 ^ (8 * k)) (λ k. xsum 16 (λ i. cell i k)) (λ k h. plane k) ∙ xsum-exchange 16 16 (λ k i. cell i k) ∙ xsum-same 16 (λ i. xsum 16 (λ k. cell i k)) (λ i. f i * 2 ^ (8 * i)) (λ i h. block i)
 
 -- two sums of eight planes, the second 64 bits above the first
 lanes_joined : (f : ℕ → ℕ) → ((i : ℕ) → f i < 2 ^ 128)
@@ -209,7 +209,7 @@ lanes_begun f o l m within =
 
 -- the step of `next` for a half of a vector, which has the bytes eight places further
 pub half_sum-next : (f : ℕ → ℕ) (p : List ℕ) (t l k before after : ℕ) → k < 8 → t < 2 → length p ≡ 32
-    → ((i : ℕ) → i < 16 → get_or p (16 * t + i) 0 ≡ byte_of (f i) (8 * t + k))
+    → ((i : ℕ) → i < 16 → get_or p (16 * t + i) 0 ≡ block_byte (f i) (8 * t + k))
     → before ≡ lane_sum f (8 * t) l k * 2 ^ (72 - 8 * k)
     → after ≡ bit_xor (before / 2 ^ 8) (word (number_l 256 (half_lanes p t)) l * 2 ^ 64)
     → after ≡ lane_sum f (8 * t) l (k + 1) * 2 ^ (72 - 8 * (k + 1))

@@ -8,7 +8,7 @@ use Rattle.std.proofs.lemmas.List.{get_or-append-add, get_or-map, get_or_append_
 use Rattle.std.proofs.lemmas.List.FromFn.{get_or-map-range_with_len}
 use Rattle.std.proofs.lemmas.Nat.{and_mask, xor_block, xor_comm, xor_lt, xor_mod, xor_shr}
 use Rattle.std.proofs.lemmas.Simd.{below_from_Fits, Each1-chunk, get_or-chunk, get_or-swz_l_below, get_or-zip2, get_or_wider, length-chunk, length-replicate, length-swz_l, length-zip2, swz_l, zip2_splat}
-use Rattle.ghash_core.specs.Tables.{byte_of, byte_times, folded, half_lanes, IsPlane, word}
+use Rattle.ghash_core.specs.Tables.{block_byte, byte_times, folded, half_lanes, IsPlane, word}
 use Rattle.ghash_core.specs.declared.planes.Plane.{Plane}
 use Rattle.ghash_core.proofs.Linear.{xor_pairs}
 use Rattle.ghash_core.proofs.Products.{entries_added}
@@ -49,7 +49,7 @@ looked_long table v long =
 pub added_lane : (h k t i : ℕ) (plane : Plane) (x r s : List ℕ) → IsPlane plane h k → t < 2 → i < 16 → length x ≡ 32 → length r ≡ 32 → length s ≡ 32 → get_or x (16 * t + i) 0 < 256
     → get_or r (16 * t + i) 0 ≡ get_or plane.upper (16 * t + get_or (zip2 (λ x s. x / 2 ^ s) x (replicate 32 4)) (16 * t + i) 0 % 16) 0
     → get_or s (16 * t + i) 0 ≡ get_or plane.lower (16 * t + get_or x (16 * t + i) 0 % 16) 0
-    → get_or (zip2 bit_xor r s) (16 * t + i) 0 ≡ byte_of (byte_times h (get_or x (16 * t + i) 0)) (8 * t + k)
+    → get_or (zip2 bit_xor r s) (16 * t + i) 0 ≡ block_byte (byte_times h (get_or x (16 * t + i) 0)) (8 * t + k)
 added_lane h k t i plane x r s is half within long lr ls small er es =
     let m = 16 * t + i in
     let b = get_or x m 0 in

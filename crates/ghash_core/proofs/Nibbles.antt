@@ -6,7 +6,7 @@ use Rattle.std.specs.Int.Bits.{xor_assoc, xor_zero_r}
 use Rattle.std.proofs.lemmas.Nat.{shr-shr}
 use Rattle.cipher_spec.specs.Field.{add_if}
 use Rattle.cipher_spec.specs.Ghash.{half, halves, times_bits}
-use Rattle.ghash_core.specs.Tables.{byte_of, chosen, nibble_times}
+use Rattle.ghash_core.specs.Tables.{block_byte, chosen, nibble_times}
 
 -- what is added at a bit may be added to a sum's second part
 add_if_xor : (b z w v : ℕ) → add_if b (bit_xor z w) v ≡ bit_xor z (add_if b w v)
@@ -51,7 +51,7 @@ times_bits-nibble x y n h =
     rw (f, e3, e2, e1, e0) (four_bits (q % 16 / 8 % 2) (q % 16 / 4 % 2) (q % 16 / 2 % 2) (q % 16 % 2) (times_bits n x y) v (half v) (half (half v)) (half (half (half v))))
 
 -- byte i of a number that is written out, counted from the last
-pub get_or-digits_l : (n x i : ℕ) → i < n → get_or (digits_l 256 n x) i 0 ≡ byte_of x i
+pub get_or-digits_l : (n x i : ℕ) → i < n → get_or (digits_l 256 n x) i 0 ≡ block_byte x i
 get_or-digits_l zero x i h = absurd (omega arith)
 get_or-digits_l (suc n) x zero h =
     let e : x % 256 ≡ x / 2 ^ (8 * 0) % 256 = omega arith in
@@ -61,7 +61,7 @@ get_or-digits_l (suc n) x (suc i) h =
     get_or-digits_l n (x / 256) i (omega arith) ∙ ap (λ q. q % 256) (shr-shr x 8 (8 * i) ∙ ap (λ k. x / 2 ^ k) e)
 
 -- the upper four bits of a byte
-pub upper_of_byte : (x i : ℕ) → i < 16 → byte_of x (15 - i) / 16 ≡ x / 2 ^ (124 - 8 * i) % 16
+pub upper_of_byte : (x i : ℕ) → i < 16 → block_byte x (15 - i) / 16 ≡ x / 2 ^ (124 - 8 * i) % 16
 upper_of_byte x i h =
     let b = x / 2 ^ (8 * (15 - i)) in
     let e : 8 * (15 - i) + 4 ≡ 124 - 8 * i = omega arith in
@@ -70,7 +70,7 @@ upper_of_byte x i h =
     t b ∙ ap (λ n. n % 16) s
 
 -- and the lower four
-pub lower_of_byte : (x i : ℕ) → i < 16 → byte_of x (15 - i) % 16 ≡ x / 2 ^ (120 - 8 * i) % 16
+pub lower_of_byte : (x i : ℕ) → i < 16 → block_byte x (15 - i) % 16 ≡ x / 2 ^ (120 - 8 * i) % 16
 lower_of_byte x i h =
     let e : 8 * (15 - i) ≡ 120 - 8 * i = omega arith in
     let t : (q : ℕ) → q % 256 % 16 ≡ q % 16 = λ q. omega arith in

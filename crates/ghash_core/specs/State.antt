@@ -2,6 +2,6 @@
 use Rattle.std.specs.Prelude.{ℕ}
 
 -- the hash subkey, and the hash of the blocks so far, both as numbers with the first bit highest
-pub record State : Type 0 where
+pub record HashState : Type 0 where
   pub key : ℕ
   pub hash : ℕ

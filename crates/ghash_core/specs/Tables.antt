@@ -1,5 +1,7 @@
 -- The tables by which a product of blocks is looked up, byte by byte of the product.
-use Rattle.std.specs.Prelude.{◌≡◌, ℕ, Bool, true, false, zero, suc, ◌+◌, ◌*◌, ◌/◌, ◌%◌, ◌^◌, ◌<◌, List, take, drop, bit_xor, slice_index, slice_index_or, leb, ◌⊎◌, if◌then◌else◌}
+use Rattle.std.specs.Prelude.{◌≡◌, ℕ, Bool, true, false, zero, suc, ◌+◌, ◌*◌, ◌/◌, ◌%◌, ◌^◌, ◌<◌}
+use Rattle.std.specs.Prelude.{List, take, drop, bit_xor, slice_index, slice_index_or, leb, ◌⊎◌}
+use Rattle.std.specs.Prelude.{if◌then◌else◌}
 use Rattle.cipher_spec.specs.Field.{add_if}
 use Rattle.cipher_spec.specs.Ghash.{half, times}
 use Rattle.ghash_core.specs.declared.planes.Plane.{Plane}
@@ -31,16 +33,16 @@ unfoldable pub byte_times : ℕ → ℕ → ℕ
 byte_times y b = bit_xor (nibble_times y (b / 16)) (nibble_times (sixteenth y) (b % 16))
 
 -- byte k of a block, counted from the last
-abbrev pub byte_of : ℕ → ℕ → ℕ
-byte_of x k = x / 2 ^ (8 * k) % 256
+abbrev pub block_byte : ℕ → ℕ → ℕ
+block_byte x k = x / 2 ^ (8 * k) % 256
 
 -- in the lower half byte k of what each value of the upper four bits of a byte adds to a product by
 -- h, and of what each value of the lower four adds; in the upper half byte k + 8
 abbrev pub IsPlane : Plane → ℕ → ℕ → Type 0
 IsPlane plane h k =
     (t n : ℕ) → t < 2 → n < 16
-    → (slice_index plane.upper (16 * t + n) ≡ byte_of (nibble_times h n) (8 * t + k))
-    × (slice_index plane.lower (16 * t + n) ≡ byte_of (nibble_times (sixteenth h) n) (8 * t + k))
+    → (slice_index plane.upper (16 * t + n) ≡ block_byte (nibble_times h n) (8 * t + k))
+    × (slice_index plane.lower (16 * t + n) ≡ block_byte (nibble_times (sixteenth h) n) (8 * t + k))
 
 -- plane k serves byte k and byte k + 8
 abbrev pub IsPlanes : List Plane → ℕ → Type 0
@@ -69,8 +71,8 @@ word n zero = n % 2 ^ 64
 word n (suc l) = n / 2 ^ 64 % 2 ^ 64
 
 -- lane l of two vectors of words, of which the second has the lower bits, as one number
-abbrev pub pair : List ℕ → List ℕ → ℕ → ℕ
-pair high low l = slice_index high l * 2 ^ 64 + slice_index low l
+abbrev pub lane_pair : List ℕ → List ℕ → ℕ → ℕ
+lane_pair high low l = slice_index high l * 2 ^ 64 + slice_index low l
 
 -- 256 bits, of which the last seven are 0, as a block: what stands behind the 128th comes back in
 -- as x ^ 128 = 1 + x + x ^ 2 + x ^ 7 says

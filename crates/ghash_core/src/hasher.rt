@@ -23,10 +23,10 @@ pub struct Ghash {
 }
 
 impl Model for Ghash {
-    ghost use Rattle.ghash_core.specs.State.{State};
+    ghost use Rattle.ghash_core.specs.State.{HashState};
     ghost use Rattle.ghash_core.specs.Tables.{settled, IsPowers};
 
-    ghost Value = { State };
+    ghost Value = { HashState };
 
     ghost view = { λ g. record { key = g.key; hash = settled g.key g.hash g.waiting } };
 

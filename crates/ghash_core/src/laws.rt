@@ -1,6 +1,7 @@
 //! The laws of the product of blocks (NIST SP 800-38D, section 6.3), and what follows for the hash.
 
-ghost use Rattle.ghash_core.specs.Laws.{Associates, Commutes, DistributesLeft, DistributesRight, GivesBlocks, HasOne, HashesByPowers};
+ghost use Rattle.ghash_core.specs.Laws.{Associates, Commutes, DistributesLeft, DistributesRight};
+ghost use Rattle.ghash_core.specs.Laws.{GivesBlocks, HasOne, HashesByPowers};
 
 /// The product of two blocks is a block.
 pub fn product_is_a_block()

@@ -1,8 +1,10 @@
 //! The product of blocks (SP 800-38D, section 6.3) by planes of one factor.
 
-ghost use Rattle.std.specs.Prelude.{◌≡◌, ◌+◌, ◌*◌, ◌/◌, ◌%◌, ◌^◌, ◌<◌, ℕ, bit_xor, length, not, slice_index};
+ghost use Rattle.std.specs.Prelude.{◌≡◌, ◌+◌, ◌*◌, ◌/◌, ◌%◌, ◌^◌, ◌<◌, ℕ, bit_xor, length, not};
+ghost use Rattle.std.specs.Prelude.{slice_index};
 ghost use Rattle.cipher_spec.specs.Ghash.{times};
-ghost use Rattle.ghash_core.specs.Tables.{byte_of, byte_times, settled, IsPlane, IsPlanes, IsPowers};
+ghost use Rattle.ghash_core.specs.Tables.{block_byte, byte_times, settled, IsPlane, IsPlanes};
+ghost use Rattle.ghash_core.specs.Tables.{IsPowers};
 
 use crate::planes::{Plane, Planes, put_planes};
 use crate::vector::{Numbers, bytes_twice, gathered, next};
@@ -23,7 +25,7 @@ fn looked(table: u8x32, v: u8x32) -> u8x32
 fn added(plane: &Plane, x: u8x32) -> u8x32
     ensures lanes { (h k : ℕ) → IsPlane plane.now h k → (t i : ℕ) → t < 2 → i < 16
         → slice_index result (16 * t + i)
-        ≡ byte_of (byte_times h (slice_index x (16 * t + i))) (8 * t + k) }
+        ≡ block_byte (byte_times h (slice_index x (16 * t + i))) (8 * t + k) }
     ensures long { length result ≡ 32 }
 {
     looked(plane.upper, x >> u8x32::splat(4)) ^ looked(plane.lower, x)

@@ -1,8 +1,9 @@
 //! Blocks in the processor's vectors, and sums of vectors that are moved by bytes.
 
-ghost use Rattle.std.specs.Prelude.{◌≡◌, [], ◌∷◌, ◌+◌, ◌*◌, ◌/◌, ◌%◌, ◌^◌, ◌<◌, ℕ, bit_xor, length, slice_index};
+ghost use Rattle.std.specs.Prelude.{◌≡◌, [], ◌∷◌, ◌+◌, ◌*◌, ◌/◌, ◌%◌, ◌^◌, ◌<◌, ℕ, bit_xor, length};
+ghost use Rattle.std.specs.Prelude.{slice_index};
 ghost use Rattle.std.specs.Simd.Lanes.{number_l};
-ghost use Rattle.ghash_core.specs.Tables.{byte_of, folded, half_lanes, pair, word};
+ghost use Rattle.ghash_core.specs.Tables.{block_byte, folded, half_lanes, lane_pair, word};
 
 use std::simd::prelude::*;
 
@@ -22,7 +23,7 @@ fn words(x: u128) -> u64x2
 // one by one.
 #[inline(always)]
 pub fn bytes(x: u128) -> u8x16
-    ensures lanes { (i : ℕ) → i < 16 → slice_index result i ≡ byte_of x i }
+    ensures lanes { (i : ℕ) → i < 16 → slice_index result i ≡ block_byte x i }
     ensures long { length result ≡ 16 }
 {
     words(x).to_le_bytes()
@@ -46,7 +47,7 @@ pub fn joined(low: u8x16, high: u8x16) -> u8x32
 /// The bytes of a block, the last first, in each half of a vector.
 #[inline(always)]
 pub fn bytes_twice(x: u128) -> u8x32
-    ensures { (t i : ℕ) → t < 2 → i < 16 → slice_index result (16 * t + i) ≡ byte_of x i }
+    ensures { (t i : ℕ) → t < 2 → i < 16 → slice_index result (16 * t + i) ≡ block_byte x i }
 {
     let v = bytes(x);
     joined(v, v)
@@ -90,8 +91,8 @@ fn upper(high: u64x4, plane: u8x32) -> u64x4
 /// Four numbers a byte further, and a plane added to their upper words.
 #[inline(always)]
 pub fn next(high: u64x4, low: u64x4, plane: u8x32) -> Numbers
-    ensures { (t l : ℕ) → t < 2 → l < 2 → pair result.high result.low (2 * t + l)
-        ≡ bit_xor (pair high low (2 * t + l) / 2 ^ 8)
+    ensures { (t l : ℕ) → t < 2 → l < 2 → lane_pair result.high result.low (2 * t + l)
+        ≡ bit_xor (lane_pair high low (2 * t + l) / 2 ^ 8)
         (word (number_l 256 (half_lanes plane t)) l * 2 ^ 64) }
 {
     Numbers {
@@ -105,8 +106,8 @@ pub fn next(high: u64x4, low: u64x4, plane: u8x32) -> Numbers
 #[inline(always)]
 fn folded(a_high: u64x2, a_low: u64x2, b_high: u64x2, b_low: u64x2) -> u128
     ensures { result
-        ≡ folded (bit_xor (bit_xor (pair a_high a_low 0) (pair a_high a_low 1 * 2 ^ 64))
-        (bit_xor (pair b_high b_low 0 * 2 ^ 64) (pair b_high b_low 1 * 2 ^ 128))) }
+        ≡ folded (bit_xor (bit_xor (lane_pair a_high a_low 0) (lane_pair a_high a_low 1 * 2 ^ 64))
+        (bit_xor (lane_pair b_high b_low 0 * 2 ^ 64) (lane_pair b_high b_low 1 * 2 ^ 128))) }
 {
     let middle = number(a_high ^ b_low);
     let upper = number(b_high) ^ (middle >> 64);
@@ -133,8 +134,9 @@ fn upper_words(v: u64x4) -> u64x2
 /// The sum of four numbers in the lanes of vectors, as a block.
 #[inline(always)]
 pub fn gathered(high: u64x4, low: u64x4) -> u128
-    ensures { result ≡ folded (bit_xor (bit_xor (pair high low 0) (pair high low 1 * 2 ^ 64))
-        (bit_xor (pair high low 2 * 2 ^ 64) (pair high low 3 * 2 ^ 128))) }
+    ensures { result ≡ folded (bit_xor (bit_xor (lane_pair high low 0)
+        (lane_pair high low 1 * 2 ^ 64))
+        (bit_xor (lane_pair high low 2 * 2 ^ 64) (lane_pair high low 3 * 2 ^ 128))) }
 {
     folded(
         lower_words(high),

@@ -20,7 +20,7 @@ use Rattle.suite_table.specs.Suites.{suite_id, format_version, id_length}
 use Rattle.context_codec.specs.Split.{context_fault}
 use Rattle.edk_codec.specs.Entry.{Entry, IsEntry, edk_text}
 use Rattle.header_codec.specs.Header.{Opening, IsAllowed, latest_end, type_text, version_text, opening_text}
-use Rattle.header_codec.specs.Table.{is_version, suite_of_version, is_forbidden, type_field, suite_field, identity, opening, context_field, part, entry}
+use Rattle.header_codec.specs.Table.{is_version, suite_of_version, is_forbidden, type_field, suite_field, identity, opening, context_field, entry_part, entry}
 use Rattle.header_codec.proofs.Steps.{after_version, after_type, after_suite_id, after_suite, after_type_field, after_context_length, after_part_length, after_provider, after_info}
 use Rattle.header_codec.proofs.Readings.{guard_read, judge_read, refuse_read}
 
@@ -143,8 +143,8 @@ context_taken p context q fits e =
     subst (λ (r : Place). IsTaken p (to_big_endian w16 (length context) ++ context) r × (length context ≤ 65535) × (context_fault context ≡ None)) same.1
     (subst (λ (x : List ℕ). IsTaken p (to_big_endian w16 (length x) ++ x) b.next × (length x ≤ 65535) × (context_fault x ≡ None)) same.0 found)
 
-pub part_taken : (p : Place) (x : List ℕ) (q : Place) → AreBytes p.left → part p ≡ Read x q → IsTaken p (sized x) q × (length x ≤ 65535) × (q.at ≤ latest_end)
-unfolding part sized
+pub part_taken : (p : Place) (x : List ℕ) (q : Place) → AreBytes p.left → entry_part p ≡ Read x q → IsTaken p (sized x) q × (length x ≤ 65535) × (q.at ≤ latest_end)
+unfolding entry_part sized
 part_taken p x q fits e =
     let a = then_is_read (number w16 p) after_part_length x q e in
     let b = guard_read (nat_lt latest_end (a.next.at + a.value)) (HeaderTooLong (a.next.at + a.value)) (bytes a.value) a.next x q a.second in
@@ -156,9 +156,9 @@ part_taken p x q fits e =
 pub entry_taken : (p : Place) (e : Entry) (q : Place) → AreBytes p.left → entry p ≡ Read e q → IsTaken p (edk_text e) q × IsEntry e × (q.at ≤ latest_end)
 unfolding entry edk_text
 entry_taken p e q fits r =
-    let a = then_is_read (part p) after_provider e q r in
-    let b = then_is_read (part a.next) (after_info a.value) e q a.second in
-    let c = then_is_read (part b.next) (λ cipher. done (record { provider = a.value; info = b.value; cipher = cipher })) e q b.second in
+    let a = then_is_read (entry_part p) after_provider e q r in
+    let b = then_is_read (entry_part a.next) (after_info a.value) e q a.second in
+    let c = then_is_read (entry_part b.next) (λ cipher. done (record { provider = a.value; info = b.value; cipher = cipher })) e q b.second in
     let first = part_taken p a.value a.next fits a.first in
     let second = part_taken a.next b.value b.next first.0.rest b.first in
     let third = part_taken b.next c.value c.next second.0.rest c.first in

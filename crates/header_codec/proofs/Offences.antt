@@ -25,8 +25,8 @@ use Rattle.edk_codec.specs.Entry.{Entry, IsEntry}
 use Rattle.header_codec.specs.declared.settings.Settings.{Settings}
 use Rattle.header_codec.specs.Header.{Opening, latest_end, opening_text, edks_text, reserved_text}
 use Rattle.esdk_fields.specs.Limits.{is_over}
-use Rattle.header_codec.specs.Table.{Head, is_content_type, is_frame_length, is_unit_over, content_of, opening, context_field, entry, data_keys, reserved, content, header_iv, header}
-use Rattle.header_codec.specs.Offence.{opened_text, IsIdentified, IsOpened, IsCount, parts_text, keys_text, AreKeys, IsType, typed_text, HasOffence}
+use Rattle.header_codec.specs.Table.{HeaderFields, is_content_type, is_frame_length, is_unit_over, content_of, opening, context_field, entry, data_keys, reserved, content_field, header_iv, header}
+use Rattle.header_codec.specs.Offence.{opened_text, IsIdentified, OpeningIsRead, IsCount, parts_text, keys_text, AreKeys, IsType, typed_text, HasOffence}
 use Rattle.header_codec.specs.Offence.{NoKeys, ManyKeys, LatePart, ContentType, Reserved, IvLength, FrameLength, LongFrame}
 use Rattle.header_codec.proofs.Steps.{after_count, after_kind, after_iv_length, after_zeros, after_reserved, after_type_of_content, after_frame, after_opening, after_context, after_keys, after_content, after_commitment, after_iv, head_with}
 use Rattle.header_codec.proofs.Readings.{guard_refused, refuse_refused, read_not_refused}
@@ -42,7 +42,7 @@ length-opened_text o context = omega (arith, length-append (opening_text o) (siz
 -- ---- the data keys
 
 late_offends : (settings : Settings) (b : List ℕ) (o : Opening) (context : List ℕ) (count : ℕ) (p : Place) (fault : Fault) (at : ℕ) → IsTaken (start b) (opened_text o context ++ to_big_endian w16 count) p
-    → IsOpened settings o context → IsCount settings count → LateParts (3 * count) p fault at → HasOffence settings b fault at
+    → OpeningIsRead settings o context → IsCount settings count → LateParts (3 * count) p fault at → HasOffence settings b fault at
 unfolding parts_text
 late_offends settings b o context count p fault at front opened counted late =
     let before : List ℕ = opened_text o context ++ to_big_endian w16 count in
@@ -54,7 +54,7 @@ late_offends settings b o context count p fault at front opened counted late =
     (LatePart o context count late.parts late.n opened counted late.few (All-from_recursion (λ part. length part ≤ 65535) late.parts late.short) (omega (arith, late.before, len)) late.fits (omega (arith, late.over, len)) refl
     (late.fault_is ∙ ap (λ (k : ℕ). HeaderTooLong (k + 2 + late.n)) len))
 
-keys_offends : (settings : Settings) (b : List ℕ) (o : Opening) (context : List ℕ) (p : Place) (fault : Fault) (at : ℕ) → IsTaken (start b) (opened_text o context) p → IsOpened settings o context → data_keys settings.max_keys p ≡ Refused fault at
+keys_offends : (settings : Settings) (b : List ℕ) (o : Opening) (context : List ℕ) (p : Place) (fault : Fault) (at : ℕ) → IsTaken (start b) (opened_text o context) p → OpeningIsRead settings o context → data_keys settings.max_keys p ≡ Refused fault at
     → HasOffence settings b fault at
 unfolding data_keys
 keys_offends settings b o context p fault at front opened e =
@@ -173,8 +173,8 @@ frame_offends settings b o context entries kind p fault at front keys type e =
     not_refused x q f n e = cc
 
 content_offends : (settings : Settings) (b : List ℕ) (o : Opening) (context : List ℕ) (entries : List Entry) (p : Place) (fault : Fault) (at : ℕ) → IsTaken (start b) (keys_text o context entries) p → AreKeys settings o context entries
-    → content o.suite settings.max_unit p ≡ Refused fault at → HasOffence settings b fault at
-unfolding content typed_text
+    → content_field o.suite settings.max_unit p ≡ Refused fault at → HasOffence settings b fault at
+unfolding content_field typed_text
 content_offends settings b o context entries p fault at front keys e =
     let before : List ℕ = keys_text o context entries in
     elim (then_is_refused (number w8 p) (after_kind o.suite settings.max_unit) fault at e) [
@@ -219,7 +219,7 @@ tail_not_refused o context entries kind p fault at e =
       ]
     ]
   where
-    not_refused : (x : Head) (q : Place) (f : Fault) (n : ℕ) → Read x q ≡ Refused f n → ⊥
+    not_refused : (x : HeaderFields) (q : Place) (f : Fault) (n : ℕ) → Read x q ≡ Refused f n → ⊥
     not_refused x q f n e = cc
 
 pub has_offence : (settings : Settings) (b : List ℕ) (fault : Fault) (at : ℕ) → AreBytes b → header settings (start b) ≡ Refused fault at → HasOffence settings b fault at
@@ -234,7 +234,7 @@ has_offence settings b fault at fits e =
             | inl second ↦ context_offends settings b a.value a.next fault at opening.taken known second
             | inr c ↦
                 let context = context_taken a.next c.value c.next opening.taken.rest c.first in
-                let opened : IsOpened settings a.value c.value = record { identified = known; short = context.1; good = context.2 } in
+                let opened : OpeningIsRead settings a.value c.value = record { identified = known; short = context.1; good = context.2 } in
                 let two = IsTaken-then (start b) (opening_text a.value) a.next (sized c.value) c.next opening.taken context.0 in
                 elim (then_is_refused (data_keys settings.max_keys c.next) (after_keys settings a.value c.value) fault at c.second) [
                   | inl third ↦ keys_offends settings b a.value c.value c.next fault at two opened third
@@ -248,7 +248,7 @@ has_offence settings b fault at fits e =
                         each = All-from_recursion IsEntry d.value keys.entries;
                         end = omega (arith, three.end, keys.within);
                       } in
-                      elim (then_is_refused (content a.value.suite settings.max_unit d.next) (after_content a.value c.value d.value) fault at d.second) [
+                      elim (then_is_refused (content_field a.value.suite settings.max_unit d.next) (after_content a.value c.value d.value) fault at d.second) [
                         | inl fourth ↦ content_offends settings b a.value c.value d.value d.next fault at three are fourth
                         | inr f ↦ absurd (tail_not_refused a.value c.value d.value f.value f.next fault at f.second)
                       ]

@@ -11,7 +11,7 @@ use Rattle.esdk_fields.specs.declared.faults.Fault.{Fault}
 use Rattle.esdk_fields.specs.declared.faults.Fault.TheVariants.{BadVersion, UnsupportedSuite, BadContext, NoDataKeys, TooManyDataKeys, HeaderTooLong, BadType}
 use Rattle.esdk_fields.specs.declared.faults.Fault.TheVariants as faults
 use Rattle.esdk_fields.specs.Numbers.{to_big_endian}
-use Rattle.esdk_fields.specs.Reading.{Refused, Reader, ◌>>=◌, ◌>>◌, done, bytes, number, refuse_if, judge, repeat}
+use Rattle.esdk_fields.specs.Reading.{Refused, FieldReader, ◌>>=◌, ◌>>◌, done, bytes, number, refuse_if, judge, repeat}
 use Rattle.esdk_fields.specs.Sized.{sized}
 use Rattle.esdk_fields.proofs.Again.{length-to_big_endian16}
 use Rattle.suite_table.specs.declared.suite.Suite.{Suite}
@@ -22,14 +22,14 @@ use Rattle.edk_codec.specs.Entry.{Entry, IsEntry, edk_text}
 use Rattle.header_codec.specs.declared.settings.Settings.{Settings}
 use Rattle.header_codec.specs.Header.{Opening, latest_end, type_text, version_text, opening_text}
 use Rattle.esdk_fields.specs.Limits.{is_over}
-use Rattle.header_codec.specs.Table.{is_version, suite_of_version, is_forbidden, type_field, suite_field, identity, opening, context_field, part, entry, data_keys, header}
-use Rattle.header_codec.specs.Offence.{opened_text, IsOpened}
+use Rattle.header_codec.specs.Table.{is_version, suite_of_version, is_forbidden, type_field, suite_field, identity, opening, context_field, entry_part, entry, data_keys, header}
+use Rattle.header_codec.specs.Offence.{opened_text, OpeningIsRead}
 use Rattle.header_codec.proofs.Steps.{after_version, after_type, after_suite_id, after_suite, after_type_field, after_context_length, after_part_length, after_provider, after_info, after_count, after_opening, after_context, after_keys}
 use Rattle.header_codec.proofs.Readings.{place, Refuses, Refuses-bind, Refuses-first, Refuses-after, guard_passes, guard_refuses, judge_refuses, refuse_refuses}
 use Rattle.esdk_fields.proofs.Limited.{limit_over}
 use Rattle.header_codec.proofs.ReadBack.{Reads-bytes, Reads-number8, Reads-number16, Reads-type, Reads-opening, Reads-context, Reads-part, Reads-entry}
 
-pub Refuses-guard : {A : Type 0} (b : Bool) (own : Fault) (k : Reader A) (at : ℕ) (text : List ℕ) (fault : Fault) → b ≡ false → Refuses k at text fault → Refuses (refuse_if b own >> k) at text fault
+pub Refuses-guard : {A : Type 0} (b : Bool) (own : Fault) (k : FieldReader A) (at : ℕ) (text : List ℕ) (fault : Fault) → b ≡ false → Refuses k at text fault → Refuses (refuse_if b own >> k) at text fault
 Refuses-guard b own k at text fault e refuses = record { again = λ rest. guard_passes b own k (place at (text ++ rest)) e ∙ refuses.again rest }
 
 pub not_of_false : (b : Bool) → b ≡ false → not b ≡ true
@@ -117,7 +117,7 @@ context_refused at context why short bad =
     (λ rest. judge_refuses (option_map BadContext (context_fault context)) (BadContext why) (done context) (place (at + length n + length context) rest) (ap (option_map BadContext) bad)))
 
 -- behind the opening and the context
-pub behind_context : (settings : Settings) (o : Opening) (context text : List ℕ) (fault : Fault) → IsOpened settings o context
+pub behind_context : (settings : Settings) (o : Opening) (context text : List ℕ) (fault : Fault) → OpeningIsRead settings o context
     → Refuses (data_keys settings.max_keys >>= after_keys settings o context) (length (opened_text o context)) text fault → Refuses (header settings) 0 (opened_text o context ++ text) fault
 unfolding header opened_text
 behind_context settings o context text fault opened refuses =
@@ -144,8 +144,8 @@ many_keys_refused max_keys at count some lt over =
     (λ rest. guard_passes (count == 0) NoDataKeys (refuse_if (is_over max_keys count) (TooManyDataKeys count) >> repeat entry count) (place q rest) (ne_eqb count 0 (λ e. omega arith))
     ∙ guard_refuses (is_over max_keys count) (TooManyDataKeys count) (repeat entry count) (place q rest) (limit_over max_keys count over))
 
-part_refused : (at n : ℕ) → n < 2 ^ 16 → latest_end < at + 2 + n → Refuses part at (to_big_endian w16 n) (HeaderTooLong (at + 2 + n))
-unfolding part
+part_refused : (at n : ℕ) → n < 2 ^ 16 → latest_end < at + 2 + n → Refuses entry_part at (to_big_endian w16 n) (HeaderTooLong (at + 2 + n))
+unfolding entry_part
 part_refused at n lt over =
     let q = at + length (to_big_endian w16 n) in
     let end : q + n ≡ at + 2 + n = omega (arith, length-to_big_endian16 n) in
@@ -176,34 +176,34 @@ EndsLate-rest at x parts n end late =
 part_within : (at : ℕ) (x : List ℕ) (parts : List (List ℕ)) (n end : ℕ) → EndsLate at (x ∷ parts) n end → at + length (sized x) ≤ latest_end
 part_within at x parts n end late = omega (arith, late.before, ap length (flat_map-cons sized x parts), length-append (sized x) (flat_map sized parts))
 
-first_late : (at n end : ℕ) → EndsLate at [] n end → Refuses part at (late_text [] n) (HeaderTooLong end)
+first_late : (at n end : ℕ) → EndsLate at [] n end → Refuses entry_part at (late_text [] n) (HeaderTooLong end)
 unfolding late_text
 first_late at n end late =
     let same : at + 2 + n ≡ end = omega (arith, late.end_is) in
-    subst (λ (k : ℕ). Refuses part at (to_big_endian w16 n) (HeaderTooLong k)) same (part_refused at n late.fits (omega (arith, late.over)))
+    subst (λ (k : ℕ). Refuses entry_part at (to_big_endian w16 n) (HeaderTooLong k)) same (part_refused at n late.fits (omega (arith, late.over)))
 
 -- behind one part
-next_late : {A : Type 0} (f : List ℕ → Reader A) (at : ℕ) (x : List ℕ) (parts : List (List ℕ)) (n end : ℕ) → EndsLate at (x ∷ parts) n end
-    → Refuses (f x) (at + length (sized x)) (late_text parts n) (HeaderTooLong end) → Refuses (part >>= f) at (late_text (x ∷ parts) n) (HeaderTooLong end)
+next_late : {A : Type 0} (f : List ℕ → FieldReader A) (at : ℕ) (x : List ℕ) (parts : List (List ℕ)) (n end : ℕ) → EndsLate at (x ∷ parts) n end
+    → Refuses (f x) (at + length (sized x)) (late_text parts n) (HeaderTooLong end) → Refuses (entry_part >>= f) at (late_text (x ∷ parts) n) (HeaderTooLong end)
 next_late f at x parts n end late refuses =
-    subst (λ (t : List ℕ). Refuses (part >>= f) at t (HeaderTooLong end)) (sym (late_text-cons x parts n))
-    (Refuses-bind part f at (sized x) (late_text parts n) x (HeaderTooLong end) (Reads-part at x late.short.0 (part_within at x parts n end late)) refuses)
+    subst (λ (t : List ℕ). Refuses (entry_part >>= f) at t (HeaderTooLong end)) (sym (late_text-cons x parts n))
+    (Refuses-bind entry_part f at (sized x) (late_text parts n) x (HeaderTooLong end) (Reads-part at x late.short.0 (part_within at x parts n end late)) refuses)
 
 -- what reads a cipher, and what reads further entries behind this one
-abbrev ends_entry : List ℕ → List ℕ → List ℕ → Reader Entry
+abbrev ends_entry : List ℕ → List ℕ → List ℕ → FieldReader Entry
 ends_entry provider info cipher = done (record { provider = provider; info = info; cipher = cipher })
 
 entry_late : (at : ℕ) (parts : List (List ℕ)) (n end : ℕ) → length parts < 3 → EndsLate at parts n end → Refuses entry at (late_text parts n) (HeaderTooLong end)
 unfolding entry
-entry_late at [] n end few late = Refuses-first part after_provider at (late_text [] n) (HeaderTooLong end) (first_late at n end late)
+entry_late at [] n end few late = Refuses-first entry_part after_provider at (late_text [] n) (HeaderTooLong end) (first_late at n end late)
 entry_late at (x ∷ []) n end few late =
     next_late after_provider at x [] n end late
-    (Refuses-first part (after_info x) (at + length (sized x)) (late_text [] n) (HeaderTooLong end) (first_late (at + length (sized x)) n end (EndsLate-rest at x [] n end late)))
+    (Refuses-first entry_part (after_info x) (at + length (sized x)) (late_text [] n) (HeaderTooLong end) (first_late (at + length (sized x)) n end (EndsLate-rest at x [] n end late)))
 entry_late at (x ∷ y ∷ []) n end few late =
     let second = EndsLate-rest at x (y ∷ []) n end late in
     next_late after_provider at x (y ∷ []) n end late
     (next_late (after_info x) (at + length (sized x)) y [] n end second
-    (Refuses-first part (ends_entry x y) (at + length (sized x) + length (sized y)) (late_text [] n) (HeaderTooLong end) (first_late (at + length (sized x) + length (sized y)) n end (EndsLate-rest (at + length (sized x)) y [] n end second))))
+    (Refuses-first entry_part (ends_entry x y) (at + length (sized x) + length (sized y)) (late_text [] n) (HeaderTooLong end) (first_late (at + length (sized x) + length (sized y)) n end (EndsLate-rest (at + length (sized x)) y [] n end second))))
 entry_late at (x ∷ y ∷ z ∷ parts) n end few late = absurd (omega arith)
 
 late_text-entry : (x y z : List ℕ) (parts : List (List ℕ)) (n : ℕ) → late_text (x ∷ y ∷ z ∷ parts) n ≡ edk_text (record { provider = x; info = y; cipher = z }) ++ late_text parts n

@@ -14,7 +14,7 @@ use Rattle.context_codec.specs.Split.{context_fault}
 use Rattle.header_codec.specs.declared.settings.Settings.{Settings}
 use Rattle.header_codec.specs.Header.{latest_end}
 use Rattle.esdk_fields.specs.Limits.{is_over}
-use Rattle.header_codec.specs.Table.{is_version, suite_of_version, is_forbidden, is_content_type, is_frame_length, is_unit_over, content_of, type_field, suite_field, identity, opening, context_field, part, entry, data_keys, reserved, content, header_iv, header}
+use Rattle.header_codec.specs.Table.{is_version, suite_of_version, is_forbidden, is_content_type, is_frame_length, is_unit_over, content_of, type_field, suite_field, identity, opening, context_field, entry_part, entry, data_keys, reserved, content_field, header_iv, header}
 use Rattle.header_codec.proofs.Steps.{after_version, after_type, after_suite_id, after_suite, after_type_field, after_context_length, after_part_length, after_part_end, after_provider, after_info, after_count, after_kind, after_iv_length, after_zeros, after_reserved, after_type_of_content, after_frame, after_opening, after_context, after_keys, after_content, after_commitment, after_size, after_iv, head_with}
 
 IsSequential-type_field : (suite : Suite) → IsSequential (type_field suite)
@@ -52,8 +52,8 @@ IsSequential-context_field =
     (λ n. IsSequential-bind (bytes n) (λ context. judge (option_map BadContext (context_fault context)) >> done context) (IsSequential-bytes n)
     (λ context. IsSequential-then (judge (option_map BadContext (context_fault context))) (done context) (IsSequential-judge (option_map BadContext (context_fault context))) (IsSequential-done context)))
 
-pub IsSequential-part : IsSequential part
-unfolding part
+pub IsSequential-part : IsSequential entry_part
+unfolding entry_part
 IsSequential-part =
     IsSequential-bind (number w16) after_part_length (IsSequential-number w16)
     (λ n. IsSequential-bind here (after_part_end n) IsSequential-here
@@ -62,9 +62,9 @@ IsSequential-part =
 pub IsSequential-entry : IsSequential entry
 unfolding entry
 IsSequential-entry =
-    IsSequential-bind part after_provider IsSequential-part
-    (λ provider. IsSequential-bind part (after_info provider) IsSequential-part
-    (λ info. IsSequential-bind part (λ cipher. done (record { provider = provider; info = info; cipher = cipher })) IsSequential-part
+    IsSequential-bind entry_part after_provider IsSequential-part
+    (λ provider. IsSequential-bind entry_part (after_info provider) IsSequential-part
+    (λ info. IsSequential-bind entry_part (λ cipher. done (record { provider = provider; info = info; cipher = cipher })) IsSequential-part
     (λ cipher. IsSequential-done (record { provider = provider; info = info; cipher = cipher }))))
 
 pub IsSequential-data_keys : (max_keys : Option ℕ) → IsSequential (data_keys max_keys)
@@ -89,8 +89,8 @@ IsSequential-after_reserved max_unit kind =
     (IsSequential-refuse_if (not (is_frame_length kind frame)) (BadFrameLength frame))
     (IsSequential-then (refuse_if (is_unit_over max_unit kind frame) (UnitTooLong frame)) (done (content_of kind frame)) (IsSequential-refuse_if (is_unit_over max_unit kind frame) (UnitTooLong frame)) (IsSequential-done (content_of kind frame))))
 
-pub IsSequential-content : (suite : Suite) (max_unit : Option ℕ) → IsSequential (content suite max_unit)
-unfolding content
+pub IsSequential-content : (suite : Suite) (max_unit : Option ℕ) → IsSequential (content_field suite max_unit)
+unfolding content_field
 IsSequential-content suite max_unit =
     IsSequential-bind (number w8) (after_kind suite max_unit) (IsSequential-number w8)
     (λ kind. IsSequential-then (refuse_if (not (is_content_type kind)) (BadContentType kind)) (after_type_of_content suite max_unit kind) (IsSequential-refuse_if (not (is_content_type kind)) (BadContentType kind))
@@ -107,7 +107,7 @@ IsSequential-header settings =
     IsSequential-bind (opening settings.uncommitted) (after_opening settings) (IsSequential-opening settings.uncommitted)
     (λ o. IsSequential-bind context_field (after_context settings o) IsSequential-context_field
     (λ context. IsSequential-bind (data_keys settings.max_keys) (after_keys settings o context) (IsSequential-data_keys settings.max_keys)
-    (λ entries. IsSequential-bind (content o.suite settings.max_unit) (after_content o context entries) (IsSequential-content o.suite settings.max_unit)
+    (λ entries. IsSequential-bind (content_field o.suite settings.max_unit) (after_content o context entries) (IsSequential-content o.suite settings.max_unit)
     (λ kind. IsSequential-bind (bytes (data_length o.suite)) (after_commitment o context entries kind) (IsSequential-bytes (data_length o.suite))
     (λ commitment. IsSequential-bind here (after_size o context entries kind commitment) IsSequential-here
     (λ size. IsSequential-bind (header_iv o.suite) (after_iv o context entries kind commitment size) (IsSequential-header_iv o.suite)

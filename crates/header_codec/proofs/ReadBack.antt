@@ -12,7 +12,7 @@ use Rattle.esdk_fields.specs.declared.faults.Fault.TheVariants.{BadVersion, BadC
 use Rattle.esdk_fields.specs.declared.contents.Content.{Content}
 use Rattle.esdk_fields.specs.Place.{Place, start}
 use Rattle.esdk_fields.specs.Numbers.{to_big_endian}
-use Rattle.esdk_fields.specs.Reading.{Read, Reader, ◌>>=◌, ◌>>◌, done, bytes, number, refuse_if, judge, repeat}
+use Rattle.esdk_fields.specs.Reading.{Read, FieldReader, ◌>>=◌, ◌>>◌, done, bytes, number, refuse_if, judge, repeat}
 use Rattle.esdk_fields.specs.Sized.{sized}
 use Rattle.esdk_fields.proofs.Again.{bytes_again, number8_again, number16_again, number32_again, length-to_big_endian8, length-to_big_endian16, length-to_big_endian32}
 use Rattle.suite_table.specs.declared.suite.Suite.{Suite}
@@ -24,8 +24,8 @@ use Rattle.edk_codec.specs.Entry.{Entry, IsEntry, edk_text}
 use Rattle.header_codec.specs.declared.settings.Settings.{Settings}
 use Rattle.header_codec.specs.Header.{Opening, HeaderValue, opening_of, latest_end, content_type, frame_length, behind_keys, IsContent, IsIv, IsAllowed, type_text, version_text, opening_text, edks_text, reserved_text, content_text, header_text, iv_text, authentication_text}
 use Rattle.esdk_fields.specs.Limits.{is_over}
-use Rattle.header_codec.specs.Table.{Head, is_version, is_content_type, is_frame_length, is_unit_over, content_of, type_field, suite_field, identity, opening, context_field, part, entry, data_keys, reserved, content, header_iv, header, BeginsWith}
-use Rattle.header_codec.specs.Laws.{IsSpelled}
+use Rattle.header_codec.specs.Table.{HeaderFields, is_version, is_content_type, is_frame_length, is_unit_over, content_of, type_field, suite_field, identity, opening, context_field, entry_part, entry, data_keys, reserved, content_field, header_iv, header, BeginsWith}
+use Rattle.header_codec.specs.Laws.{HeaderIsSpelled}
 use Rattle.header_codec.proofs.Steps.{after_version, after_type, after_suite_id, after_suite, after_type_field, after_context_length, after_part_length, after_provider, after_info, after_count, after_kind, after_iv_length, after_zeros, after_reserved, after_type_of_content, after_frame, after_opening, after_context, after_keys, after_content, after_commitment, after_size, after_iv, head_with}
 use Rattle.header_codec.proofs.Readings.{place, Reads, Reads-bind, Reads-after, guard_passes, judge_passes}
 use Rattle.esdk_fields.proofs.Limited.{limit_within}
@@ -47,7 +47,7 @@ pub Reads-number32 : (at n : ℕ) → n < 2 ^ 32 → Reads (number w32) at (to_b
 Reads-number32 at n lt = record { again = λ rest. number32_again n rest at lt ∙ ap (λ (k : ℕ). Read n (place (at + k) rest)) (sym (length-to_big_endian32 n)) }
 
 -- a test that passes leaves what is read behind it
-pub Reads-guard : {A : Type 0} (b : Bool) (fault : Fault) (k : Reader A) (at : ℕ) (text : List ℕ) (x : A) → b ≡ false → Reads k at text x → Reads (refuse_if b fault >> k) at text x
+pub Reads-guard : {A : Type 0} (b : Bool) (fault : Fault) (k : FieldReader A) (at : ℕ) (text : List ℕ) (x : A) → b ≡ false → Reads k at text x → Reads (refuse_if b fault >> k) at text x
 Reads-guard b fault k at text x e reads = record { again = λ rest. guard_passes b fault k (place at (text ++ rest)) e ∙ reads.again rest }
 
 -- ---- the table's readers
@@ -114,8 +114,8 @@ Reads-context at context short good =
     (Reads-after (bytes (length context)) (λ read. judge (option_map BadContext (context_fault read)) >> done read) (at + length n) context context context (Reads-bytes (length context) (at + length n) context refl)
     (λ p. judge_passes (option_map BadContext (context_fault context)) (done context) p judged))
 
-pub Reads-part : (at : ℕ) (x : List ℕ) → length x ≤ 65535 → at + length (sized x) ≤ latest_end → Reads part at (sized x) x
-unfolding part sized
+pub Reads-part : (at : ℕ) (x : List ℕ) → length x ≤ 65535 → at + length (sized x) ≤ latest_end → Reads entry_part at (sized x) x
+unfolding entry_part sized
 Reads-part at x short within =
     let n = to_big_endian w16 (length x) in
     let inside : nat_lt latest_end (at + length n + length x) ≡ false = le-ltb latest_end (at + length n + length x) (omega (arith, length-append n x)) in
@@ -133,11 +133,11 @@ Reads-entry at e fits within =
     let cs = sized e.cipher in
     let len : length (ps ++ is ++ cs) ≡ length ps + length is + length cs = omega (arith, length-append (ps ++ is) cs, length-append ps is) in
     let cipher : Reads (after_info e.provider e.info) (at + length ps + length is) cs e =
-    Reads-after part (λ cipher. done (record { provider = e.provider; info = e.info; cipher = cipher })) (at + length ps + length is) cs e.cipher e (Reads-part (at + length ps + length is) e.cipher fits.cipher (omega arith)) (λ p. refl) in
+    Reads-after entry_part (λ cipher. done (record { provider = e.provider; info = e.info; cipher = cipher })) (at + length ps + length is) cs e.cipher e (Reads-part (at + length ps + length is) e.cipher fits.cipher (omega arith)) (λ p. refl) in
     let info : Reads (after_provider e.provider) (at + length ps) (is ++ cs) e =
-    Reads-bind part (after_info e.provider) (at + length ps) is cs e.info e (Reads-part (at + length ps) e.info fits.info (omega arith)) cipher in
-    let whole : Reads (part >>= after_provider) at (ps ++ (is ++ cs)) e = Reads-bind part after_provider at ps (is ++ cs) e.provider e (Reads-part at e.provider fits.provider (omega arith)) info in
-    subst (λ (t : List ℕ). Reads (part >>= after_provider) at t e) (sym (append_assoc ps is cs)) whole
+    Reads-bind entry_part (after_info e.provider) (at + length ps) is cs e.info e (Reads-part (at + length ps) e.info fits.info (omega arith)) cipher in
+    let whole : Reads (entry_part >>= after_provider) at (ps ++ (is ++ cs)) e = Reads-bind entry_part after_provider at ps (is ++ cs) e.provider e (Reads-part at e.provider fits.provider (omega arith)) info in
+    subst (λ (t : List ℕ). Reads (entry_part >>= after_provider) at t e) (sym (append_assoc ps is cs)) whole
 
 pub Reads-entries : (at : ℕ) (es : List Entry) → AllByRecursion IsEntry es → at + length (flat_map edk_text es) ≤ latest_end → Reads (repeat entry (length es)) at (flat_map edk_text es) es
 unfolding repeat
@@ -175,8 +175,8 @@ Reads-reserved Uncommitted at =
     (Reads-guard (not (0 == 0)) (BadReserved 0) (number w8 >>= after_iv_length) (at + length z) l tt refl
     (Reads-after (number w8) after_iv_length (at + length z) l 12 tt (Reads-number8 (at + length z) 12 (omega arith)) (λ p. refl)))
 
-pub Reads-content : (suite : Suite) (max_unit : Option ℕ) (at : ℕ) (c : Content) → IsContent c → IfSome max_unit (λ most. frame_length c ≤ most) → Reads (content suite max_unit) at (content_text suite c) c
-unfolding content content_text
+pub Reads-content : (suite : Suite) (max_unit : Option ℕ) (at : ℕ) (c : Content) → IsContent c → IfSome max_unit (λ most. frame_length c ≤ most) → Reads (content_field suite max_unit) at (content_text suite c) c
+unfolding content_field content_text
 Reads-content suite max_unit at c is limit =
     let t = passes max_unit c is limit in
     let kind = content_type c in
@@ -205,7 +205,7 @@ Reads-iv Uncommitted at iv is = Reads-bytes 12 at iv is
 -- ---- the header
 
 -- what the table reads of this header
-abbrev pub parts_of : List ℕ → HeaderValue → Head
+abbrev pub parts_of : List ℕ → HeaderValue → HeaderFields
 parts_of context h = head_with (opening_of h) context h.entries h.content h.commitment (length (header_text context h)) h.iv h.tag
 
 Reads-tag : (o : Opening) (context : List ℕ) (entries : List Entry) (kind : Content) (commitment : List ℕ) (size : ℕ) (iv : List ℕ) (at : ℕ) (tag : List ℕ) → length tag ≡ 16
@@ -246,7 +246,7 @@ Reads-header settings h context readable =
     let i = iv_text h.suite h.iv in
     let t = h.tag in
     let size = 0 + length a + length b + length c + length d + length e in
-    let made : Head = head_with o context h.entries h.content e size h.iv t in
+    let made : HeaderFields = head_with o context h.entries h.content e size h.iv t in
     let sum : length (a ++ b ++ c ++ d ++ e) ≡ size = omega (arith, length-append (a ++ b ++ c ++ d) e, length-append (a ++ b ++ c) d, length-append (a ++ b) c, length-append a b) in
     let keys_end : 0 + length a + length b + length c ≤ latest_end = omega (arith, sum, readable.within, readable.commitment, length-behind_keys h.suite h.content) in
     let seven : Reads (after_size o context h.entries h.content e size) size (i ++ t) made =
@@ -255,7 +255,7 @@ Reads-header settings h context readable =
     let six : Reads (after_commitment o context h.entries h.content e) size (i ++ t) made = record { again = seven.again } in
     let five = Reads-bind (bytes (data_length h.suite)) (after_commitment o context h.entries h.content) (0 + length a + length b + length c + length d) e (i ++ t) e made
     (Reads-bytes (data_length h.suite) (0 + length a + length b + length c + length d) e readable.commitment) six in
-    let four = Reads-bind (content h.suite settings.max_unit) (after_content o context h.entries) (0 + length a + length b + length c) d (e ++ (i ++ t)) h.content made
+    let four = Reads-bind (content_field h.suite settings.max_unit) (after_content o context h.entries) (0 + length a + length b + length c) d (e ++ (i ++ t)) h.content made
     (Reads-content h.suite settings.max_unit (0 + length a + length b + length c) h.content readable.content readable.max_unit) five in
     let three = Reads-bind (data_keys settings.max_keys) (after_keys settings o context) (0 + length a + length b) c (d ++ (e ++ (i ++ t))) h.entries made
     (Reads-keys settings.max_keys (0 + length a + length b) h.entries readable.some readable.few readable.max_keys readable.entries keys_end) four in
@@ -270,7 +270,7 @@ Reads-header settings h context readable =
 abbrev value : HeaderValue → HeaderValue
 value x = x
 
-pub begins : (settings : Settings) (b : List ℕ) (h : HeaderValue) (end : Place) → IsSpelled settings b h end → BeginsWith settings b h end
+pub begins : (settings : Settings) (b : List ℕ) (h : HeaderValue) (end : Place) → HeaderIsSpelled settings b h end → BeginsWith settings b h end
 begins settings b h end s =
     let context = s.body.context in
     let body = header_text context h in

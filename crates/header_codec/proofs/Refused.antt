@@ -25,7 +25,7 @@ use Rattle.context_codec.specs.Split.{context_fault}
 use Rattle.edk_codec.specs.Entry.{Entry}
 use Rattle.header_codec.specs.declared.settings.Settings.{Settings}
 use Rattle.header_codec.specs.Header.{Opening, latest_end, type_text, version_text, opening_text}
-use Rattle.header_codec.specs.Table.{is_version, suite_of_version, is_forbidden, type_field, suite_field, identity, opening, context_field, part, entry}
+use Rattle.header_codec.specs.Table.{is_version, suite_of_version, is_forbidden, type_field, suite_field, identity, opening, context_field, entry_part, entry}
 use Rattle.header_codec.specs.Offence.{IsIdentified, opened_text, Offends, HasOffence}
 use Rattle.header_codec.specs.Offence.{Version, MessageType, Forbidden, SuiteId, Context}
 use Rattle.header_codec.proofs.Steps.{after_version, after_type, after_suite_id, after_suite, after_type_field, after_context_length, after_part_length, after_provider, after_info}
@@ -214,8 +214,8 @@ late_more bound more p fault at h late = record {
   fault_is = late.fault_is;
 }
 
-part_late : (p : Place) (fault : Fault) (at : ℕ) → AreBytes p.left → p.at ≤ latest_end → part p ≡ Refused fault at → LateParts 1 p fault at
-unfolding part
+part_late : (p : Place) (fault : Fault) (at : ℕ) → AreBytes p.left → p.at ≤ latest_end → entry_part p ≡ Refused fault at → LateParts 1 p fault at
+unfolding entry_part
 part_late p fault at fits low e =
     elim (then_is_refused (number w16 p) after_part_length fault at e) [
       | inl none ↦ absurd (field_not_refused (from_big_endian w16) 2 p fault at none)
@@ -249,15 +249,15 @@ part_late p fault at fits low e =
 entry_late : (p : Place) (fault : Fault) (at : ℕ) → AreBytes p.left → p.at ≤ latest_end → entry p ≡ Refused fault at → LateParts 3 p fault at
 unfolding entry
 entry_late p fault at fits low e =
-    elim (then_is_refused (part p) after_provider fault at e) [
+    elim (then_is_refused (entry_part p) after_provider fault at e) [
       | inl first ↦ late_more 1 3 p fault at (omega arith) (part_late p fault at fits low first)
       | inr a ↦
           let provider = part_taken p a.value a.next fits a.first in
-          elim (then_is_refused (part a.next) (after_info a.value) fault at a.second) [
+          elim (then_is_refused (entry_part a.next) (after_info a.value) fault at a.second) [
             | inl second ↦ late_more 2 3 p fault at (omega arith) (late_after 1 p a.value a.next fault at provider.0 provider.1 (part_late a.next fault at provider.0.rest provider.2 second))
             | inr b ↦
                 let info = part_taken a.next b.value b.next provider.0.rest b.first in
-                elim (then_is_refused (part b.next) (λ cipher. done (record { provider = a.value; info = b.value; cipher = cipher })) fault at b.second) [
+                elim (then_is_refused (entry_part b.next) (λ cipher. done (record { provider = a.value; info = b.value; cipher = cipher })) fault at b.second) [
                   | inl third ↦ late_after 2 p a.value a.next fault at provider.0 provider.1 (late_after 1 a.next b.value b.next fault at info.0 info.1 (part_late b.next fault at info.0.rest info.2 third))
                   | inr c ↦ absurd (not_refused (record { provider = a.value; info = b.value; cipher = c.value }) c.next fault at c.second)
                 ]
@@ -271,9 +271,9 @@ entry_late p fault at fits low e =
 late_after_entry : (bound : ℕ) (p : Place) (e : Entry) (q : Place) (fault : Fault) (at : ℕ) → AreBytes p.left → entry p ≡ Read e q → LateParts bound q fault at → LateParts (suc (suc (suc bound))) p fault at
 unfolding entry
 late_after_entry bound p e q fault at fits r late =
-    let a = then_is_read (part p) after_provider e q r in
-    let b = then_is_read (part a.next) (after_info a.value) e q a.second in
-    let c = then_is_read (part b.next) (λ cipher. done (record { provider = a.value; info = b.value; cipher = cipher })) e q b.second in
+    let a = then_is_read (entry_part p) after_provider e q r in
+    let b = then_is_read (entry_part a.next) (after_info a.value) e q a.second in
+    let c = then_is_read (entry_part b.next) (λ cipher. done (record { provider = a.value; info = b.value; cipher = cipher })) e q b.second in
     let same = read_same (record { provider = a.value; info = b.value; cipher = c.value }) e c.next q c.second in
     let first = part_taken p a.value a.next fits a.first in
     let second = part_taken a.next b.value b.next first.0.rest b.first in

@@ -9,7 +9,7 @@ use Rattle.esdk_fields.specs.declared.faults.Fault.TheVariants.{NoDataKeys, TooM
 use Rattle.esdk_fields.specs.declared.stops.Stop.{Stop}
 use Rattle.esdk_fields.specs.declared.stops.Stop.TheVariants as stops
 use Rattle.esdk_fields.specs.Place.{Place, start, followed}
-use Rattle.esdk_fields.specs.Reading.{Reading, Read, Refused, Wanting, Reader, then_read, ◌>>=◌, ◌>>◌, done, bytes, number, here, refuse_if, repeat}
+use Rattle.esdk_fields.specs.Reading.{Reading, Read, Refused, Wanting, FieldReader, then_read, ◌>>=◌, ◌>>◌, done, bytes, number, here, refuse_if, repeat}
 use Rattle.esdk_fields.specs.Gives.{StopsAt}
 use Rattle.esdk_fields.specs.Sequential.{IsSequential}
 use Rattle.esdk_fields.proofs.Fronts.{value_stays_at, read_within_at, left_is, onward_from}
@@ -19,18 +19,18 @@ use Rattle.edk_codec.specs.Entry.{Entry}
 use Rattle.header_codec.specs.declared.settings.Settings.{Settings}
 use Rattle.header_codec.specs.Header.{Opening}
 use Rattle.esdk_fields.specs.Limits.{is_over}
-use Rattle.header_codec.specs.Table.{Head, opening, entry, data_keys, content, header_iv, header}
-use Rattle.header_codec.specs.Rest.{Ending, ending, keys_count, head_of, after_all_keys, after_some_keys, after_front, behind, Resumes}
+use Rattle.header_codec.specs.Table.{HeaderFields, opening, entry, data_keys, content_field, header_iv, header}
+use Rattle.header_codec.specs.Rest.{Ending, ending, keys_count, fields_with, after_all_keys, after_some_keys, after_front, place_past, Resumes}
 use Rattle.header_codec.proofs.Steps.{after_count, after_content, after_commitment, after_iv, after_keys, after_context, after_opening}
 
 -- ---- readers that read the same
 
-then_then : {A B C : Type 0} (r : Reading A) (f : A → Reader B) (g : B → Reader C) → then_read (then_read r f) g ≡ then_read r (λ x. f x >>= g)
+then_then : {A B C : Type 0} (r : Reading A) (f : A → FieldReader B) (g : B → FieldReader C) → then_read (then_read r f) g ≡ then_read r (λ x. f x >>= g)
 then_then (Read x next) f g = refl
 then_then (Refused fault at) f g = refl
 then_then Wanting f g = refl
 
-then_same : {A B : Type 0} (r : Reading A) (f g : A → Reader B) → ((x : A) (p : Place) → f x p ≡ g x p) → then_read r f ≡ then_read r g
+then_same : {A B : Type 0} (r : Reading A) (f g : A → FieldReader B) → ((x : A) (p : Place) → f x p ≡ g x p) → then_read r f ≡ then_read r g
 then_same (Read x next) f g same = same x next
 then_same (Refused fault at) f g same = refl
 then_same Wanting f g same = refl
@@ -42,25 +42,25 @@ pub resumes_first : (settings : Settings) (bytes : List ℕ) → Resumes setting
 resumes_first settings bytes = record { reads = λ more. refl; inside = omega arith }
 
 -- more bytes came
-pub resumes_more : (settings : Settings) (bytes piece : List ℕ) (at : ℕ) (rest : Reader Head) → Resumes settings bytes at rest → Resumes settings (bytes ++ piece) at rest
+pub resumes_more : (settings : Settings) (bytes piece : List ℕ) (at : ℕ) (rest : FieldReader HeaderFields) → Resumes settings bytes at rest → Resumes settings (bytes ++ piece) at rest
 resumes_more settings bytes piece at rest r = record {
-  reads = λ more. ap (λ (b : List ℕ). header settings (start b)) (append_assoc bytes piece more) ∙ r.reads (piece ++ more) ∙ ap (λ (b : List ℕ). rest (behind at b)) (sym (append_assoc bytes piece more));
+  reads = λ more. ap (λ (b : List ℕ). header settings (start b)) (append_assoc bytes piece more) ∙ r.reads (piece ++ more) ∙ ap (λ (b : List ℕ). rest (place_past at b)) (sym (append_assoc bytes piece more));
   inside = omega (arith, r.inside, length-append bytes piece);
 }
 
 -- the rest, read by another reader that reads the same
-pub resumes_as : (settings : Settings) (bytes : List ℕ) (at : ℕ) (rest other : Reader Head) → ((p : Place) → rest p ≡ other p) → Resumes settings bytes at rest → Resumes settings bytes at other
-resumes_as settings bytes at rest other same r = record { reads = λ more. r.reads more ∙ same (behind at (bytes ++ more)); inside = r.inside }
+pub resumes_as : (settings : Settings) (bytes : List ℕ) (at : ℕ) (rest other : FieldReader HeaderFields) → ((p : Place) → rest p ≡ other p) → Resumes settings bytes at rest → Resumes settings bytes at other
+resumes_as settings bytes at rest other same r = record { reads = λ more. r.reads more ∙ same (place_past at (bytes ++ more)); inside = r.inside }
 
 -- what is judged now
-pub reads_now : (settings : Settings) (bytes : List ℕ) (at : ℕ) (rest : Reader Head) → Resumes settings bytes at rest → header settings (start bytes) ≡ rest (behind at bytes)
+pub reads_now : (settings : Settings) (bytes : List ℕ) (at : ℕ) (rest : FieldReader HeaderFields) → Resumes settings bytes at rest → header settings (start bytes) ≡ rest (place_past at bytes)
 reads_now settings bytes at rest r =
     let e : bytes ++ [] ≡ bytes = append-nil bytes in
-    subst (λ (b : List ℕ). header settings (start b) ≡ rest (behind at b)) e (r.reads [])
+    subst (λ (b : List ℕ). header settings (start b) ≡ rest (place_past at b)) e (r.reads [])
 
 -- the next reader has stopped
-pub stops_now : {A : Type 0} (settings : Settings) (bytes : List ℕ) (at : ℕ) (m : Reader A) (f : A → Reader Head) (stop : Stop) → Resumes settings bytes at (m >>= f)
-    → StopsAt stop (m (behind at bytes)) → StopsAt stop (header settings (start bytes))
+pub stops_now : {A : Type 0} (settings : Settings) (bytes : List ℕ) (at : ℕ) (m : FieldReader A) (f : A → FieldReader HeaderFields) (stop : Stop) → Resumes settings bytes at (m >>= f)
+    → StopsAt stop (m (place_past at bytes)) → StopsAt stop (header settings (start bytes))
 stops_now settings bytes at m f stops.Wanting r e = reads_now settings bytes at (m >>= f) r ∙ ap (λ q. then_read q f) e
 stops_now settings bytes at m f (stops.Fault fault end) r e = reads_now settings bytes at (m >>= f) r ∙ ap (λ q. then_read q f) e
 stops_now settings bytes at m f stops.Memory r e = tt
@@ -69,26 +69,26 @@ place_is : (p : Place) (at : ℕ) (left : List ℕ) → p.at ≡ at → p.left �
 place_is p at left e f = ap (λ (k : ℕ). record { at = k; left = p.left }) e ∙ ap (λ (b : List ℕ). record { at = at; left = b }) f
 
 -- what a reader leaves of the bytes from an offset on
-left_behind : {A : Type 0} (bytes : List ℕ) (at : ℕ) (m : Reader A) (x : A) (next : Place) → IsSequential m → m (behind at bytes) ≡ Read x next → next.left ≡ drop next.at bytes
+left_behind : {A : Type 0} (bytes : List ℕ) (at : ℕ) (m : FieldReader A) (x : A) (next : Place) → IsSequential m → m (place_past at bytes) ≡ Read x next → next.left ≡ drop next.at bytes
 left_behind bytes at m x next s e =
-    let forth : at ≤ next.at = onward_from m (behind at bytes) x next s e in
+    let forth : at ≤ next.at = onward_from m (place_past at bytes) x next s e in
     let sum : at + (next.at - at) ≡ next.at = omega arith in
-    left_is m (behind at bytes) x next s e ∙ drop-drop (next.at - at) at bytes ∙ ap (λ (n : ℕ). drop n bytes) sum
+    left_is m (place_past at bytes) x next s e ∙ drop-drop (next.at - at) at bytes ∙ ap (λ (n : ℕ). drop n bytes) sum
 
 -- the place behind it is known by its offset
-pub place_behind : {A : Type 0} (bytes : List ℕ) (at : ℕ) (m : Reader A) (x : A) (next : Place) → IsSequential m → m (behind at bytes) ≡ Read x next → next ≡ behind next.at bytes
+pub place_behind : {A : Type 0} (bytes : List ℕ) (at : ℕ) (m : FieldReader A) (x : A) (next : Place) → IsSequential m → m (place_past at bytes) ≡ Read x next → next ≡ place_past next.at bytes
 place_behind bytes at m x next s e = place_is next next.at (drop next.at bytes) refl (left_behind bytes at m x next s e)
 
 -- the next reader has read its value, and the rest is read behind it
-pub passes : {A : Type 0} (settings : Settings) (bytes : List ℕ) (at : ℕ) (m : Reader A) (f : A → Reader Head) (x : A) (next : Place) → IsSequential m → Resumes settings bytes at (m >>= f)
-    → m (behind at bytes) ≡ Read x next → Resumes settings bytes next.at (f x)
+pub passes : {A : Type 0} (settings : Settings) (bytes : List ℕ) (at : ℕ) (m : FieldReader A) (f : A → FieldReader HeaderFields) (x : A) (next : Place) → IsSequential m → Resumes settings bytes at (m >>= f)
+    → m (place_past at bytes) ≡ Read x next → Resumes settings bytes next.at (f x)
 passes settings bytes at m f x next s r e =
-    let within : next.at ≤ at + length (drop at bytes) = read_within_at m (behind at bytes) x next s e in
+    let within : next.at ≤ at + length (drop at bytes) = read_within_at m (place_past at bytes) x next s e in
     let inside : next.at ≤ length bytes = omega (arith, within, r.inside, length-drop at bytes) in
     record {
       reads = λ more.
-          let more_left : behind at (bytes ++ more) ≡ followed (behind at bytes) more = ap (λ (b : List ℕ). record { at = at; left = b }) (drop-append-le at bytes more r.inside) in
-          let read : m (behind at (bytes ++ more)) ≡ Read x (followed next more) = ap m more_left ∙ value_stays_at m (behind at bytes) more x next s e in
+          let more_left : place_past at (bytes ++ more) ≡ followed (place_past at bytes) more = ap (λ (b : List ℕ). record { at = at; left = b }) (drop-append-le at bytes more r.inside) in
+          let read : m (place_past at (bytes ++ more)) ≡ Read x (followed next more) = ap m more_left ∙ value_stays_at m (place_past at bytes) more x next s e in
           r.reads more ∙ ap (λ q. then_read q f) read
           ∙ ap (f x) (place_is (followed next more) next.at (drop next.at (bytes ++ more)) refl
           (ap (λ (b : List ℕ). b ++ more) (left_behind bytes at m x next s e) ∙ sym (drop-append-le next.at bytes more inside)));
@@ -97,7 +97,7 @@ passes settings bytes at m f x next s r e =
 
 -- ---- the parts of a header
 
-abbrev count_again : Option ℕ → ℕ → Reader ℕ
+abbrev count_again : Option ℕ → ℕ → FieldReader ℕ
 count_again max_keys count = do
   refuse_if (count == 0) NoDataKeys
   refuse_if (is_over max_keys count) (TooManyDataKeys count)
@@ -119,31 +119,31 @@ resumes_opening settings bytes at r = record { reads = r.reads; inside = r.insid
 all_keys_same : (settings : Settings) (o : Opening) (context : List ℕ) (entries : List Entry) (p : Place) → after_all_keys settings o context entries p ≡ after_keys settings o context entries p
 unfolding ending
 all_keys_same settings o context entries p =
-    then_then (content o.suite settings.max_unit p) ending_content made
-    ∙ then_same (content o.suite settings.max_unit p) (λ kind. ending_content kind >>= made) (after_content o context entries) (λ kind q.
+    then_then (content_field o.suite settings.max_unit p) ending_content made
+    ∙ then_same (content_field o.suite settings.max_unit p) (λ kind. ending_content kind >>= made) (after_content o context entries) (λ kind q.
     then_then (bytes (data_length o.suite) q) (ending_size kind) made
     ∙ then_same (bytes (data_length o.suite) q) (λ commitment. ending_size kind commitment >>= made) (after_commitment o context entries kind) (λ commitment r.
     then_then (header_iv o.suite r) (ending_iv kind commitment r.at) made
     ∙ then_same (header_iv o.suite r) (λ iv. ending_iv kind commitment r.at iv >>= made) (after_iv o context entries kind commitment r.at) (λ iv s.
     then_then (bytes 16 s) (ending_tag kind commitment r.at iv) made)))
   where
-    made : Ending → Reader Head
-    made e = done (head_of o context entries e)
+    made : Ending → FieldReader HeaderFields
+    made e = done (fields_with o context entries e)
 
-    ending_tag : Content → List ℕ → ℕ → List ℕ → List ℕ → Reader Ending
+    ending_tag : Content → List ℕ → ℕ → List ℕ → List ℕ → FieldReader Ending
     ending_tag kind commitment size iv tag = done (record { content = kind; commitment = commitment; size = size; iv = iv; tag = tag })
 
-    ending_iv : Content → List ℕ → ℕ → List ℕ → Reader Ending
+    ending_iv : Content → List ℕ → ℕ → List ℕ → FieldReader Ending
     ending_iv kind commitment size iv = bytes 16 >>= ending_tag kind commitment size iv
 
-    ending_size : Content → List ℕ → Reader Ending
+    ending_size : Content → List ℕ → FieldReader Ending
     ending_size kind commitment = here >>= λ size. header_iv o.suite >>= ending_iv kind commitment size
 
-    ending_content : Content → Reader Ending
+    ending_content : Content → FieldReader Ending
     ending_content kind = bytes (data_length o.suite) >>= ending_size kind
 
 -- two tests, and then that many of something
-two_tests : {A C : Type 0} (b c : Bool) (first second : Fault) (count : ℕ) (m : ℕ → Reader A) (g : A → Reader C) (p : Place)
+two_tests : {A C : Type 0} (b c : Bool) (first second : Fault) (count : ℕ) (m : ℕ → FieldReader A) (g : A → FieldReader C) (p : Place)
     → ((refuse_if b first >> (refuse_if c second >> m count)) >>= g) p ≡ ((refuse_if b first >> (refuse_if c second >> done count)) >>= λ n. m n >>= g) p
 two_tests true c first second count m g p = refl
 two_tests false true first second count m g p = refl
@@ -165,7 +165,7 @@ pub resumes_front : (settings : Settings) (bytes : List ℕ) (at : ℕ) (o : Ope
 resumes_front settings bytes at o context = resumes_as settings bytes at (after_context settings o context) (after_front settings o context) (front_same settings o context)
 
 -- one entry, and what follows it
-abbrev pub after_entry : Settings → Opening → List ℕ → List Entry → ℕ → Entry → Reader Head
+abbrev pub after_entry : Settings → Opening → List ℕ → List Entry → ℕ → Entry → FieldReader HeaderFields
 after_entry settings o context entries left x = after_some_keys settings o context (entries ++ x ∷ []) left
 
 entry_same : (settings : Settings) (o : Opening) (context : List ℕ) (entries : List Entry) (n : ℕ) (p : Place)

@@ -18,8 +18,8 @@ use Rattle.edk_codec.specs.Entry.{Entry, IsEntry}
 use Rattle.header_codec.specs.declared.settings.Settings.{Settings}
 use Rattle.header_codec.specs.Header.{Opening, latest_end, opening_text, edks_text, reserved_text}
 use Rattle.esdk_fields.specs.Limits.{is_over}
-use Rattle.header_codec.specs.Table.{is_content_type, is_frame_length, is_unit_over, content_of, opening, context_field, entry, data_keys, reserved, content, header}
-use Rattle.header_codec.specs.Offence.{opened_text, IsIdentified, IsOpened, IsCount, parts_text, keys_text, AreKeys, IsType, typed_text, Offends, HasOffence}
+use Rattle.header_codec.specs.Table.{is_content_type, is_frame_length, is_unit_over, content_of, opening, context_field, entry, data_keys, reserved, content_field, header}
+use Rattle.header_codec.specs.Offence.{opened_text, IsIdentified, OpeningIsRead, IsCount, parts_text, keys_text, AreKeys, IsType, typed_text, Offends, HasOffence}
 use Rattle.header_codec.specs.Offence.{Version, MessageType, Forbidden, SuiteId, Context, NoKeys, ManyKeys, LatePart, ContentType, Reserved, IvLength, FrameLength, LongFrame}
 use Rattle.header_codec.proofs.Steps.{after_count, after_kind, after_iv_length, after_zeros, after_reserved, after_type_of_content, after_frame, after_opening, after_context, after_keys, after_content}
 use Rattle.header_codec.proofs.Readings.{place, Refuses, Refuses-bind, Refuses-first, Refuses-after, guard_passes, guard_refuses, refuse_refuses}
@@ -29,8 +29,8 @@ use Rattle.header_codec.proofs.Offending.{Refuses-guard, not_of_false, not_of_tr
 
 -- ---- the content
 
-content_type_refused : (suite : Suite) (max_unit : Option ℕ) (at kind : ℕ) → kind < 2 ^ 8 → kind ≢ 1 → kind ≢ 2 → Refuses (content suite max_unit) at (to_big_endian w8 kind) (BadContentType kind)
-unfolding content
+content_type_refused : (suite : Suite) (max_unit : Option ℕ) (at kind : ℕ) → kind < 2 ^ 8 → kind ≢ 1 → kind ≢ 2 → Refuses (content_field suite max_unit) at (to_big_endian w8 kind) (BadContentType kind)
+unfolding content_field
 content_type_refused suite max_unit at kind lt not_single not_framed =
     Refuses-after (number w8) (after_kind suite max_unit) at (to_big_endian w8 kind) kind (BadContentType kind) (Reads-number8 at kind lt)
     (λ rest. guard_refuses (not (is_content_type kind)) (BadContentType kind) (after_type_of_content suite max_unit kind) (place (at + length (to_big_endian w8 kind)) rest)
@@ -38,8 +38,8 @@ content_type_refused suite max_unit at kind lt not_single not_framed =
 
 -- a content type is read, and what follows it is refused
 behind_type : (suite : Suite) (max_unit : Option ℕ) (at kind : ℕ) (text : List ℕ) (fault : Fault) → IsType kind
-    → ((q : ℕ) → Refuses (after_type_of_content suite max_unit kind) q text fault) → Refuses (content suite max_unit) at (to_big_endian w8 kind ++ text) fault
-unfolding content
+    → ((q : ℕ) → Refuses (after_type_of_content suite max_unit kind) q text fault) → Refuses (content_field suite max_unit) at (to_big_endian w8 kind ++ text) fault
+unfolding content_field
 behind_type suite max_unit at kind text fault type refuses =
     Refuses-bind (number w8) (after_kind suite max_unit) at (to_big_endian w8 kind) text kind fault (Reads-number8 at kind (small kind type))
     (Refuses-guard (not (is_content_type kind)) (BadContentType kind) (after_type_of_content suite max_unit kind) (at + length (to_big_endian w8 kind)) text fault (not_of_true (is_content_type kind) (known kind type))
@@ -75,7 +75,7 @@ iv_length_refused max_unit kind q iv_length lt other =
 
 -- content type and reserved bytes are read, and the frame length is refused
 behind_reserved : (suite : Suite) (max_unit : Option ℕ) (at kind frame : ℕ) (fault : Fault) → IsType kind
-    → ((q : ℕ) → Refuses (after_reserved max_unit kind) q (to_big_endian w32 frame) fault) → Refuses (content suite max_unit) at (to_big_endian w8 kind ++ (reserved_text suite ++ to_big_endian w32 frame)) fault
+    → ((q : ℕ) → Refuses (after_reserved max_unit kind) q (to_big_endian w32 frame) fault) → Refuses (content_field suite max_unit) at (to_big_endian w8 kind ++ (reserved_text suite ++ to_big_endian w32 frame)) fault
 behind_reserved suite max_unit at kind frame fault type refuses =
     let r = reserved_text suite in
     behind_type suite max_unit at kind (r ++ to_big_endian w32 frame) fault type
@@ -88,16 +88,16 @@ wrong_length max_unit at kind frame lt wrong =
     (not_of_false (is_frame_length kind frame) wrong))
 
 length_refused : (suite : Suite) (max_unit : Option ℕ) (at kind frame : ℕ) → frame < 2 ^ 32 → ((kind ≡ 1) × (frame ≢ 0)) ⊎ ((kind ≡ 2) × (frame ≡ 0))
-    → Refuses (content suite max_unit) at (to_big_endian w8 kind ++ (reserved_text suite ++ to_big_endian w32 frame)) (BadFrameLength frame)
+    → Refuses (content_field suite max_unit) at (to_big_endian w8 kind ++ (reserved_text suite ++ to_big_endian w32 frame)) (BadFrameLength frame)
 length_refused suite max_unit at kind frame lt (inl single) =
-    subst (λ (k : ℕ). Refuses (content suite max_unit) at (to_big_endian w8 k ++ (reserved_text suite ++ to_big_endian w32 frame)) (BadFrameLength frame)) (sym single.0)
+    subst (λ (k : ℕ). Refuses (content_field suite max_unit) at (to_big_endian w8 k ++ (reserved_text suite ++ to_big_endian w32 frame)) (BadFrameLength frame)) (sym single.0)
     (behind_reserved suite max_unit at 1 frame (BadFrameLength frame) (inl refl) (λ q. wrong_length max_unit q 1 frame lt (ne_eqb frame 0 single.1)))
 length_refused suite max_unit at kind frame lt (inr framed) =
-    subst (λ (k : ℕ). Refuses (content suite max_unit) at (to_big_endian w8 k ++ (reserved_text suite ++ to_big_endian w32 frame)) (BadFrameLength frame)) (sym framed.0)
+    subst (λ (k : ℕ). Refuses (content_field suite max_unit) at (to_big_endian w8 k ++ (reserved_text suite ++ to_big_endian w32 frame)) (BadFrameLength frame)) (sym framed.0)
     (behind_reserved suite max_unit at 2 frame (BadFrameLength frame) (inr refl) (λ q. wrong_length max_unit q 2 frame lt (not_of_true (eqb frame 0) (eq-eqb frame 0 framed.1))))
 
 frame_refused : (suite : Suite) (max_unit : Option ℕ) (at frame : ℕ) → 1 ≤ frame → frame < 2 ^ 32 → IsSomeAnd max_unit (λ most. most < frame)
-    → Refuses (content suite max_unit) at (to_big_endian w8 2 ++ (reserved_text suite ++ to_big_endian w32 frame)) (UnitTooLong frame)
+    → Refuses (content_field suite max_unit) at (to_big_endian w8 2 ++ (reserved_text suite ++ to_big_endian w32 frame)) (UnitTooLong frame)
 frame_refused suite max_unit at frame some lt over =
     behind_reserved suite max_unit at 2 frame (UnitTooLong frame) (inr refl)
     (λ q. Refuses-after (number w32) (after_frame max_unit 2) q (to_big_endian w32 frame) frame (UnitTooLong frame) (Reads-number32 q frame lt)
@@ -110,7 +110,7 @@ frame_refused suite max_unit at frame some lt over =
 -- ---- behind the data keys
 
 behind_keys : (settings : Settings) (o : Opening) (context : List ℕ) (entries : List Entry) (text : List ℕ) (fault : Fault) → AreKeys settings o context entries
-    → ((at : ℕ) → Refuses (content o.suite settings.max_unit) at text fault) → Refuses (header settings) 0 (keys_text o context entries ++ text) fault
+    → ((at : ℕ) → Refuses (content_field o.suite settings.max_unit) at text fault) → Refuses (header settings) 0 (keys_text o context entries ++ text) fault
 unfolding keys_text
 behind_keys settings o context entries text fault keys refuses =
     let front = opened_text o context in
@@ -120,10 +120,10 @@ behind_keys settings o context entries text fault keys refuses =
     subst (λ (t : List ℕ). Refuses (header settings) 0 t fault) (sym (append_assoc front k text))
     (behind_context settings o context (k ++ text) fault keys.opened
     (Refuses-bind (data_keys settings.max_keys) (after_keys settings o context) (length front) k text entries fault reads
-    (Refuses-first (content o.suite settings.max_unit) (after_content o context entries) (length front + length k) text fault (refuses (length front + length k)))))
+    (Refuses-first (content_field o.suite settings.max_unit) (after_content o context entries) (length front + length k) text fault (refuses (length front + length k)))))
 
 -- a part of an entry
-late_refused : (settings : Settings) (o : Opening) (context : List ℕ) (count : ℕ) (parts : List (List ℕ)) (n : ℕ) → IsOpened settings o context → IsCount settings count → length parts < 3 * count → All (λ part. length part ≤ 65535) parts
+late_refused : (settings : Settings) (o : Opening) (context : List ℕ) (count : ℕ) (parts : List (List ℕ)) (n : ℕ) → OpeningIsRead settings o context → IsCount settings count → length parts < 3 * count → All (λ part. length part ≤ 65535) parts
     → length (parts_text o context count parts) ≤ latest_end → n < 2 ^ 16 → latest_end < length (parts_text o context count parts) + 2 + n
     → Refuses (header settings) 0 (parts_text o context count parts ++ to_big_endian w16 n) (HeaderTooLong (length (parts_text o context count parts) + 2 + n))
 unfolding parts_text data_keys late_text
@@ -167,7 +167,7 @@ in_context settings o context fault known refuses =
     Refuses-bind (opening settings.uncommitted) (after_opening settings) 0 (opening_text o) (sized context) o fault (Reads-opening settings.uncommitted 0 o known.allowed known.id_len)
     (Refuses-first context_field (after_context settings o) (0 + length (opening_text o)) (sized context) fault refuses)
 
-in_keys : (settings : Settings) (o : Opening) (context text : List ℕ) (fault : Fault) → IsOpened settings o context → Refuses (data_keys settings.max_keys) (length (opened_text o context)) text fault → Refuses (header settings) 0 (opened_text o context ++ text) fault
+in_keys : (settings : Settings) (o : Opening) (context text : List ℕ) (fault : Fault) → OpeningIsRead settings o context → Refuses (data_keys settings.max_keys) (length (opened_text o context)) text fault → Refuses (header settings) 0 (opened_text o context ++ text) fault
 in_keys settings o context text fault opened refuses =
     behind_context settings o context text fault opened (Refuses-first (data_keys settings.max_keys) (after_keys settings o context) (length (opened_text o context)) text fault refuses)
 

@@ -26,8 +26,8 @@ use Rattle.edk_codec.specs.Entry.{Entry, IsEntry, edk_text}
 use Rattle.header_codec.specs.declared.settings.Settings.{Settings}
 use Rattle.header_codec.specs.Header.{Opening, HeaderValue, latest_end, content_type, frame_length, behind_keys, IsContent, IsIv, type_text, version_text, opening_text, edks_text, reserved_text, content_text, header_text, iv_text, authentication_text}
 use Rattle.esdk_fields.specs.Limits.{is_over}
-use Rattle.header_codec.specs.Table.{Head, is_content_type, is_frame_length, is_unit_over, content_of, entry, data_keys, reserved, content, header_iv, header, made_of, BeginsWith}
-use Rattle.header_codec.specs.Laws.{IsSpelled}
+use Rattle.header_codec.specs.Table.{HeaderFields, is_content_type, is_frame_length, is_unit_over, content_of, entry, data_keys, reserved, content_field, header_iv, header, made_of, BeginsWith}
+use Rattle.header_codec.specs.Laws.{HeaderIsSpelled}
 use Rattle.header_codec.proofs.Steps.{after_count, after_kind, after_iv_length, after_zeros, after_reserved, after_type_of_content, after_frame, header_is_read}
 use Rattle.header_codec.proofs.Readings.{guard_read, refuse_read}
 use Rattle.header_codec.proofs.Fronts.{not_false, nothing_taken, opening_taken, context_taken, entries_taken}
@@ -86,8 +86,8 @@ pub record ContentTaken (suite : Suite) (max_unit : Option ℕ) (p : Place) (c :
   pub content : IsContent c
   pub limit : IfSome max_unit (λ most. frame_length c ≤ most)
 
-pub content_taken : (suite : Suite) (max_unit : Option ℕ) (p : Place) (c : Content) (q : Place) → AreBytes p.left → content suite max_unit p ≡ Read c q → ContentTaken suite max_unit p c q
-unfolding content content_text
+pub content_taken : (suite : Suite) (max_unit : Option ℕ) (p : Place) (c : Content) (q : Place) → AreBytes p.left → content_field suite max_unit p ≡ Read c q → ContentTaken suite max_unit p c q
+unfolding content_field content_text
 content_taken suite max_unit p c q fits e =
     let a = then_is_read (number w8 p) (after_kind suite max_unit) c q e in
     let b = guard_read (not (is_content_type a.value)) (BadContentType a.value) (after_type_of_content suite max_unit a.value) a.next c q a.second in
@@ -166,8 +166,8 @@ length-behind_keys suite c = omega (arith, length-content suite c, length-reserv
 
 -- ---- the header
 
-pub spelled_made : (settings : Settings) (b : List ℕ) (parts : Head) (end : Place) (stored : List KeyValue) → AreBytes b → header settings (start b) ≡ Read parts end → SpellsContext parts.context stored
-    → IsSpelled settings b (made_of b parts stored) end
+pub spelled_made : (settings : Settings) (b : List ℕ) (parts : HeaderFields) (end : Place) (stored : List KeyValue) → AreBytes b → header settings (start b) ≡ Read parts end → SpellsContext parts.context stored
+    → HeaderIsSpelled settings b (made_of b parts stored) end
 unfolding header_text authentication_text
 spelled_made settings b parts end stored fits e spells =
     let h = header_is_read settings (start b) parts end e in
@@ -216,6 +216,6 @@ spelled_made settings b parts end stored fits e spells =
       behind = omega (arith, six.end, five.end, ap length raw);
     }
 
-pub is_spelled : (settings : Settings) (b : List ℕ) (h : HeaderValue) (end : Place) → AreBytes b → BeginsWith settings b h end → IsSpelled settings b h end
+pub is_spelled : (settings : Settings) (b : List ℕ) (h : HeaderValue) (end : Place) → AreBytes b → BeginsWith settings b h end → HeaderIsSpelled settings b h end
 is_spelled settings b h end fits begins =
-    subst (λ (x : HeaderValue). IsSpelled settings b x end) (sym begins.is) (spelled_made settings b begins.parts end h.stored fits begins.read begins.stored)
+    subst (λ (x : HeaderValue). HeaderIsSpelled settings b x end) (sym begins.is) (spelled_made settings b begins.parts end h.stored fits begins.read begins.stored)

@@ -12,7 +12,7 @@ use Rattle.context_codec.proofs.OneContext.{one_context}
 use Rattle.context_codec.proofs.Sorting.{spells_some}
 use Rattle.header_codec.specs.declared.settings.Settings.{Settings}
 use Rattle.header_codec.specs.Header.{HeaderValue}
-use Rattle.header_codec.specs.Table.{Head, context_field, header, made_of, BeginsWith}
+use Rattle.header_codec.specs.Table.{HeaderFields, context_field, header, made_of, BeginsWith}
 use Rattle.header_codec.proofs.Steps.{after_context_length, header_is_read}
 use Rattle.header_codec.proofs.Readings.{judge_read}
 use Rattle.header_codec.proofs.Fronts.{option_map_none}
@@ -20,9 +20,9 @@ use Rattle.header_codec.proofs.Fronts.{option_map_none}
 pub one_header : (settings : Settings) (b : List ℕ) (h k : HeaderValue) (end other : Place) → BeginsWith settings b h end → BeginsWith settings b k other → (h ≡ k) × (end ≡ other)
 one_header settings b h k end other first second =
     let same = read_same first.parts second.parts end other (sym first.read ∙ second.read) in
-    let spelled : SpellsContext second.parts.context h.stored = subst (λ (p : Head). SpellsContext p.context h.stored) same.0 first.stored in
+    let spelled : SpellsContext second.parts.context h.stored = subst (λ (p : HeaderFields). SpellsContext p.context h.stored) same.0 first.stored in
     let stored : h.stored ≡ k.stored = one_context second.parts.context h.stored k.stored spelled second.stored in
-    (first.is ∙ ap (λ (p : Head). made_of b p h.stored) same.0 ∙ ap (λ (s : List KeyValue). made_of b second.parts s) stored ∙ sym second.is, same.1)
+    (first.is ∙ ap (λ (p : HeaderFields). made_of b p h.stored) same.0 ∙ ap (λ (s : List KeyValue). made_of b second.parts s) stored ∙ sym second.is, same.1)
 
 -- a context that was read has no fault
 context_good : (p : Place) (context : List ℕ) (q : Place) → context_field p ≡ Read context q → context_fault context ≡ None
@@ -34,7 +34,7 @@ context_good p context q e =
     let same = read_same b.value context b.next q c.1 in
     subst (λ (x : List ℕ). context_fault x ≡ None) same.0 (option_map_none BadContext (context_fault b.value) c.0)
 
-pub some_header : (settings : Settings) (b : List ℕ) (parts : Head) (end : Place) → header settings (start b) ≡ Read parts end → (h : HeaderValue) × BeginsWith settings b h end
+pub some_header : (settings : Settings) (b : List ℕ) (parts : HeaderFields) (end : Place) → header settings (start b) ≡ Read parts end → (h : HeaderValue) × BeginsWith settings b h end
 some_header settings b parts end read =
     let h = header_is_read settings (start b) parts end read in
     let stored = spells_some parts.context (context_good h.after_id parts.context h.after_context h.context) in

@@ -12,7 +12,7 @@ use Rattle.context_codec.specs.Context.{KeyValue}
 use Rattle.context_codec.specs.Split.{SpellsContext}
 use Rattle.edk_codec.specs.Entry.{Entry}
 use Rattle.header_codec.specs.Header.{HeaderValue, IsKept, IsLock, lock_of}
-use Rattle.header_codec.specs.Table.{Head, header, header_iv, made_of, BeginsWith}
+use Rattle.header_codec.specs.Table.{HeaderFields, header, header_iv, made_of, BeginsWith}
 use Rattle.header_codec.proofs.Steps.{header_is_read}
 use Rattle.header_codec.proofs.Spelled.{is_spelled}
 use Rattle.header_codec.proofs.Order.{IsSequential-header, IsSequential-header_iv}
@@ -22,19 +22,19 @@ length_of_field n p x next e =
     let f = field_is_read (λ b. b) n p x next e in
     ap length (sym f.value) ∙ omega (arith, f.long, length-take n p.left)
 
-pub length-tag : (settings : Settings) (p : Place) (parts : Head) (end : Place) → header settings p ≡ Read parts end → length parts.tag ≡ 16
+pub length-tag : (settings : Settings) (p : Place) (parts : HeaderFields) (end : Place) → header settings p ≡ Read parts end → length parts.tag ≡ 16
 length-tag settings p parts end e =
     let h = header_is_read settings p parts end e in
     length_of_field 16 h.iv_end parts.tag end h.tag
 
 -- the body ends before the authentication does
-pub size_before_end : (settings : Settings) (p : Place) (parts : Head) (end : Place) → header settings p ≡ Read parts end → parts.size ≤ end.at
+pub size_before_end : (settings : Settings) (p : Place) (parts : HeaderFields) (end : Place) → header settings p ≡ Read parts end → parts.size ≤ end.at
 size_before_end settings p parts end e =
     let h = header_is_read settings p parts end e in
     let iv = onward_from (header_iv parts.opening.suite) h.body_end parts.iv h.iv_end (IsSequential-header_iv parts.opening.suite) h.iv in
     omega (arith, h.size, iv, onward_from (bytes 16) h.iv_end parts.tag end (IsSequential-bytes 16) h.tag)
 
-pub size_within : (settings : Settings) (b : List ℕ) (parts : Head) (end : Place) → header settings (start b) ≡ Read parts end → parts.size ≤ length b
+pub size_within : (settings : Settings) (b : List ℕ) (parts : HeaderFields) (end : Place) → header settings (start b) ≡ Read parts end → parts.size ≤ length b
 size_within settings b parts end e =
     omega (arith, size_before_end settings (start b) parts end e, read_within (header settings) b parts end (IsSequential-header settings) e)
 
@@ -42,7 +42,7 @@ abbrev value : HeaderValue → HeaderValue
 value h = h
 
 -- a header made of what was read
-pub begins_with : (settings : Settings) (b : List ℕ) (parts : Head) (next : Place) (stored : List KeyValue) (end : ℕ) (id : List ℕ) (entries : List Entry) (commitment raw tag : List ℕ)
+pub begins_with : (settings : Settings) (b : List ℕ) (parts : HeaderFields) (next : Place) (stored : List KeyValue) (end : ℕ) (id : List ℕ) (entries : List Entry) (commitment raw tag : List ℕ)
     → header settings (start b) ≡ Read parts next → SpellsContext parts.context stored → end ≡ next.at
     → id ≡ parts.opening.id → entries ≡ parts.entries → commitment ≡ parts.commitment → raw ≡ take parts.size b → tag ≡ parts.tag
     → (left : List ℕ) × BeginsWith settings b (record { suite = parts.opening.suite; message_id = id; stored = stored; entries = entries; content = parts.content; commitment = commitment; raw = raw; iv = parts.iv; tag = tag }) (record { at = end; left = left })

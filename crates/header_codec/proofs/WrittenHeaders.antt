@@ -19,12 +19,12 @@ use Rattle.header_codec.specs.declared.settings.Settings.{Settings}
 use Rattle.header_codec.specs.Header.{Opening, IsHeader, IsIv, IsAllowed, frame_length, behind_keys, latest_end, version_text, opening_text, edks_text, content_text, header_text, authentication_text}
 use Rattle.header_codec.specs.Offence.{opened_text, keys_text}
 use Rattle.header_codec.specs.Table.{BeginsWith}
-use Rattle.header_codec.specs.Written.{HeaderParts, AreParts, body_of, value_of, end_refusal, keys_end}
+use Rattle.header_codec.specs.Written.{HeaderParts, AreParts, body_of_parts, header_value, end_refusal, keys_end}
 use Rattle.header_codec.proofs.ReadBack.{begins}
 use Rattle.header_codec.proofs.Spelled.{length-behind_keys, length-opening_text}
 
-pub written_is_header : (parts : HeaderParts) (iv tag : List ℕ) → AreParts parts → IsIv parts.opening.suite iv → IsHeader (body_of parts) (value_of parts iv tag)
-unfolding body_of header_text
+pub written_is_header : (parts : HeaderParts) (iv tag : List ℕ) → AreParts parts → IsIv parts.opening.suite iv → IsHeader (body_of_parts parts) (header_value parts iv tag)
+unfolding body_of_parts header_text
 written_is_header parts iv tag are is-iv = record {
   context = ctx_text parts.stored;
   spells = spells_written parts.stored are.is_context;
@@ -63,8 +63,8 @@ keys_end_is o stored entries =
     )
 
 -- what the body has behind the data keys
-pub length-written : (parts : HeaderParts) → length parts.commitment ≡ data_length parts.opening.suite → length (body_of parts) ≡ keys_end parts.opening parts.stored parts.entries + behind_keys parts.opening.suite
-unfolding body_of header_text keys_end keys_text opened_text
+pub length-written : (parts : HeaderParts) → length parts.commitment ≡ data_length parts.opening.suite → length (body_of_parts parts) ≡ keys_end parts.opening parts.stored parts.entries + behind_keys parts.opening.suite
+unfolding body_of_parts header_text keys_end keys_text opened_text
 length-written parts len =
     let suite = parts.opening.suite in
     let keys = opening_text parts.opening ++ sized (ctx_text parts.stored) ++ edks_text parts.entries in
@@ -83,11 +83,11 @@ pub written_is_read : (settings : Settings) (parts : HeaderParts) (iv tag more :
     → AreParts parts → IsIv parts.opening.suite iv → length tag ≡ 16 → IsAllowed settings.uncommitted parts.opening.suite
     → end_refusal parts.opening parts.stored parts.entries ≡ None
     → IfSome settings.max_keys (λ most. length parts.entries ≤ most) → IfSome settings.max_unit (λ most. frame_length parts.content ≤ most)
-    → BeginsWith settings (body_of parts ++ authentication_text (value_of parts iv tag) ++ more) (value_of parts iv tag)
-    (record { at = length (body_of parts) + length (authentication_text (value_of parts iv tag)); left = more })
+    → BeginsWith settings (body_of_parts parts ++ authentication_text (header_value parts iv tag) ++ more) (header_value parts iv tag)
+    (record { at = length (body_of_parts parts) + length (authentication_text (header_value parts iv tag)); left = more })
 written_is_read settings parts iv tag more are is-iv len allowed taken keys unit =
-    let body = body_of parts in
-    let value = value_of parts iv tag in
+    let body = body_of_parts parts in
+    let value = header_value parts iv tag in
     begins settings (body ++ authentication_text value ++ more) value (record { at = length body + length (authentication_text value); left = more }) (record {
       body = written_is_header parts iv tag are is-iv;
       within = record {

@@ -1,6 +1,7 @@
 -- A header as a value, and its one text. Standard: AWS Encryption SDK, message header, "Structure"
 -- of versions 1.0 and 2.0. The suite says which version it is.
-use Rattle.std.specs.Prelude.{◌≡◌, ℕ, ◌+◌, ◌<◌, ◌≤◌, ◌^◌, List, [], ◌++◌, length, All, IfSome, Bool, true}
+use Rattle.std.specs.Prelude.{◌≡◌, ℕ, ◌+◌, ◌<◌, ◌≤◌, ◌^◌, List, [], ◌++◌, length, All, IfSome, Bool}
+use Rattle.std.specs.Prelude.{true, None, false}
 use Rattle.std.specs.Int.{w8, w16, w32}
 use Rattle.std.specs.List.{flat_map}
 use Rattle.esdk_fields.specs.declared.contents.Content.{Content}
@@ -157,3 +158,7 @@ pub record IsLock (h : HeaderValue) : Type 0 where
   pub content : IsContent h.content
   pub commitment : length h.commitment ≡ data_length h.suite
   pub keys_end : length h.raw ≤ latest_end + behind_keys h.suite
+
+-- no limits, and only messages that commit to their data key
+abbrev pub no_limits : Settings
+no_limits = record { max_keys = None; max_unit = None; uncommitted = false }

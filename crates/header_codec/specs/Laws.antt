@@ -6,10 +6,12 @@ use Rattle.esdk_fields.specs.Laws.{JudgesInOrder}
 use Rattle.esdk_fields.specs.Place.{Place, start}
 use Rattle.esdk_fields.specs.Reading.{Read, Refused}
 use Rattle.header_codec.specs.declared.settings.Settings.{Settings}
-use Rattle.header_codec.specs.Header.{HeaderValue, IsHeader, IsWithin, IsAllowed, IsIv, authentication_text, frame_length}
+use Rattle.header_codec.specs.Header.{HeaderValue, IsHeader, IsWithin, IsAllowed, IsIv}
+use Rattle.header_codec.specs.Header.{authentication_text, frame_length}
 use Rattle.header_codec.specs.Offence.{HasOffence}
-use Rattle.header_codec.specs.Table.{Head, header, BeginsWith}
-use Rattle.header_codec.specs.Written.{HeaderParts, AreParts, body_of, value_of, end_refusal}
+use Rattle.header_codec.specs.Table.{HeaderFields, header, BeginsWith}
+use Rattle.header_codec.specs.Written.{HeaderParts, AreParts, body_of_parts, header_value}
+use Rattle.header_codec.specs.Written.{end_refusal}
 
 -- A fault stays when bytes follow, and comes with the last byte of its field, no earlier and no
 -- later. So does the header, once it is whole.
@@ -18,7 +20,7 @@ JudgesHeadersInOrder = (settings : Settings) → JudgesInOrder (header settings)
 
 -- Without the table: the bytes are the body of this header, its authentication and what follows,
 -- and no limit is passed.
-pub record IsSpelled (settings : Settings) (bytes : List ℕ) (h : HeaderValue)
+pub record HeaderIsSpelled (settings : Settings) (bytes : List ℕ) (h : HeaderValue)
     (end : Place) : Type 0 where
   pub body : IsHeader h.raw h
   pub within : IsWithin settings h
@@ -30,7 +32,7 @@ pub record IsSpelled (settings : Settings) (bytes : List ℕ) (h : HeaderValue)
 abbrev pub ReadsSpelledHeaders : Type 0
 ReadsSpelledHeaders = (settings : Settings) (bytes : List ℕ) (h : HeaderValue) (end : Place)
     → AreBytes bytes
-    → BeginsWith settings bytes h end ↔ IsSpelled settings bytes h end
+    → BeginsWith settings bytes h end ↔ HeaderIsSpelled settings bytes h end
 
 -- The same bytes begin with no two headers.
 abbrev pub ReadsOneHeader : Type 0
@@ -39,7 +41,7 @@ ReadsOneHeader = (settings : Settings) (bytes : List ℕ) (h k : HeaderValue) (e
 
 -- Where the table reads to its end, there is a header.
 abbrev pub ReadsSomeHeader : Type 0
-ReadsSomeHeader = (settings : Settings) (bytes : List ℕ) (parts : Head) (end : Place)
+ReadsSomeHeader = (settings : Settings) (bytes : List ℕ) (parts : HeaderFields) (end : Place)
     → header settings (start bytes) ≡ Read parts end
     → (h : HeaderValue) × BeginsWith settings bytes h end
 
@@ -55,7 +57,7 @@ RefusesTheFirstOffence = (settings : Settings) (bytes : List ℕ) (fault : Fault
 -- What is written is the body of a header of these parts, with any authentication.
 abbrev pub WritesHeaders : Type 0
 WritesHeaders = (parts : HeaderParts) (iv tag : List ℕ) → AreParts parts
-    → IsIv parts.opening.suite iv → IsHeader (body_of parts) (value_of parts iv tag)
+    → IsIv parts.opening.suite iv → IsHeader (body_of_parts parts) (header_value parts iv tag)
 
 -- What is written is read back as these parts with whatever authentication stands behind it,
 -- whatever follows, under any limits that the parts keep.
@@ -66,9 +68,10 @@ WrittenHeadersAreRead = (settings : Settings) (parts : HeaderParts) (iv tag more
     → end_refusal parts.opening parts.stored parts.entries ≡ None
     → IfSome settings.max_keys (λ most. length parts.entries ≤ most)
     → IfSome settings.max_unit (λ most. frame_length parts.content ≤ most)
-    → BeginsWith settings (body_of parts ++ authentication_text (value_of parts iv tag) ++ more)
-    (value_of parts iv tag)
+    → BeginsWith settings (body_of_parts parts ++ authentication_text (header_value parts iv tag)
+    ++ more)
+    (header_value parts iv tag)
     (record {
-      at = length (body_of parts) + length (authentication_text (value_of parts iv tag));
+      at = length (body_of_parts parts) + length (authentication_text (header_value parts iv tag));
       left = more;
     })

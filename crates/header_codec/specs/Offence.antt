@@ -1,12 +1,18 @@
 -- Which fields of a header have a fault, row by row, without the reader: the fields as they are
 -- spelled. Standard: AWS Encryption SDK, message header, "Structure" of versions 1.0 and 2.0; the
 -- faults M1 to M9 and M23 to M26 are this library's.
-use Rattle.std.specs.Prelude.{◌≡◌, ◌≢◌, ◌⊎◌, ℕ, ◌+◌, ◌*◌, ◌^◌, ◌<◌, ◌≤◌, List, ◌++◌, length, All, Some, None, false, IfSome, IsSomeAnd}
+use Rattle.std.specs.Prelude.{◌≡◌, ◌≢◌, ◌⊎◌, ℕ, ◌+◌, ◌*◌, ◌^◌, ◌<◌, ◌≤◌, List, ◌++◌, length, All}
+use Rattle.std.specs.Prelude.{Some, None, false, IfSome, IsSomeAnd}
 use Rattle.std.specs.Int.{w8, w16, w32}
 use Rattle.std.specs.List.{flat_map}
 use Rattle.esdk_fields.specs.declared.faults.ContextFault.{ContextFault}
 use Rattle.esdk_fields.specs.declared.faults.Fault.{Fault}
-use Rattle.esdk_fields.specs.declared.faults.Fault.TheVariants.{BadVersion, UnsupportedSuite, BadContext, NoDataKeys, TooManyDataKeys, BadContentType, BadFrameLength, HeaderTooLong, UnitTooLong, BadType, BadReserved, BadIvLength}
+use Rattle.esdk_fields.specs.declared.faults.Fault.TheVariants.{BadVersion, UnsupportedSuite}
+use Rattle.esdk_fields.specs.declared.faults.Fault.TheVariants.{BadContext, NoDataKeys}
+use Rattle.esdk_fields.specs.declared.faults.Fault.TheVariants.{TooManyDataKeys, BadContentType}
+use Rattle.esdk_fields.specs.declared.faults.Fault.TheVariants.{BadFrameLength, HeaderTooLong}
+use Rattle.esdk_fields.specs.declared.faults.Fault.TheVariants.{UnitTooLong, BadType, BadReserved}
+use Rattle.esdk_fields.specs.declared.faults.Fault.TheVariants.{BadIvLength}
 use Rattle.esdk_fields.specs.declared.faults.Fault.TheVariants as faults
 use Rattle.esdk_fields.specs.Numbers.{to_big_endian}
 use Rattle.esdk_fields.specs.Sized.{sized}
@@ -16,7 +22,8 @@ use Rattle.suite_table.specs.Suites.{suite_id, format_version, id_length}
 use Rattle.context_codec.specs.Split.{context_fault}
 use Rattle.edk_codec.specs.Entry.{Entry, IsEntry}
 use Rattle.header_codec.specs.declared.settings.Settings.{Settings}
-use Rattle.header_codec.specs.Header.{Opening, IsAllowed, latest_end, version_text, reserved_text, opening_text, edks_text}
+use Rattle.header_codec.specs.Header.{Opening, IsAllowed, latest_end, version_text, reserved_text}
+use Rattle.header_codec.specs.Header.{opening_text, edks_text}
 
 -- ---- fields that have no fault
 
@@ -28,7 +35,7 @@ pub record IsIdentified (settings : Settings) (o : Opening) : Type 0 where
   pub allowed : IsAllowed settings.uncommitted o.suite
   pub id_len : length o.id ≡ id_length o.suite
 
-pub record IsOpened (settings : Settings) (o : Opening) (context : List ℕ) : Type 0 where
+pub record OpeningIsRead (settings : Settings) (o : Opening) (context : List ℕ) : Type 0 where
   pub identified : IsIdentified settings o
   pub short : length context ≤ 65535
   pub good : context_fault context ≡ None
@@ -50,7 +57,7 @@ keys_text o context entries = opened_text o context ++ edks_text entries
 
 pub record AreKeys (settings : Settings) (o : Opening) (context : List ℕ)
     (entries : List Entry) : Type 0 where
-  pub opened : IsOpened settings o context
+  pub opened : OpeningIsRead settings o context
   pub count : IsCount settings (length entries)
   pub each : All IsEntry entries
   pub end : length (keys_text o context entries) ≤ latest_end
@@ -84,15 +91,16 @@ pub data Offends (settings : Settings) (fields : List ℕ) (fault : Fault) : Typ
   Context : (o : Opening) (context : List ℕ) (why : ContextFault) → IsIdentified settings o
       → length context ≤ 65535 → context_fault context ≡ Some why
       → fields ≡ opened_text o context → fault ≡ BadContext why → Offends settings fields fault
-  NoKeys : (o : Opening) (context : List ℕ) → IsOpened settings o context
+  NoKeys : (o : Opening) (context : List ℕ) → OpeningIsRead settings o context
       → fields ≡ opened_text o context ++ to_big_endian w16 0 → fault ≡ NoDataKeys
       → Offends settings fields fault
-  ManyKeys : (o : Opening) (context : List ℕ) (count : ℕ) → IsOpened settings o context → 1 ≤ count
+  ManyKeys : (o : Opening) (context : List ℕ) (count : ℕ) → OpeningIsRead settings o context
+      → 1 ≤ count
       → count < 2 ^ 16 → IsSomeAnd settings.max_keys (λ most. most < count)
       → fields ≡ opened_text o context ++ to_big_endian w16 count → fault ≡ TooManyDataKeys count
       → Offends settings fields fault
   LatePart : (o : Opening) (context : List ℕ) (count : ℕ) (parts : List (List ℕ)) (n : ℕ)
-      → IsOpened settings o context → IsCount settings count
+      → OpeningIsRead settings o context → IsCount settings count
       → length parts < 3 * count → All (λ part. length part ≤ 65535) parts
       → length (parts_text o context count parts) ≤ latest_end
       → n < 2 ^ 16 → latest_end < length (parts_text o context count parts) + 2 + n

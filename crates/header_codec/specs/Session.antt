@@ -1,5 +1,6 @@
 -- A header that comes in pieces.
-use Rattle.std.specs.Prelude.{◌≡◌, ℕ, ◌-◌, List, [], ◌++◌, length, take, Bool, true, false, Option, Some, None, Result, Ok, Err, if◌then◌else◌}
+use Rattle.std.specs.Prelude.{◌≡◌, ℕ, ◌-◌, List, [], ◌++◌, length, take, Bool, true, false, Option}
+use Rattle.std.specs.Prelude.{Some, None, Result, Ok, Err, if◌then◌else◌}
 use Rattle.esdk_fields.specs.declared.refusals.FieldError.{FieldError}
 use Rattle.esdk_fields.specs.declared.refusals.FieldError.TheVariants as errors
 use Rattle.esdk_fields.specs.Place.{start}
@@ -7,7 +8,7 @@ use Rattle.esdk_fields.specs.Reading.{Reading, Read, Refused, Wanting}
 use Rattle.header_codec.specs.declared.session.HeaderStep.{HeaderStep}
 use Rattle.header_codec.specs.declared.settings.Settings.{Settings}
 use Rattle.header_codec.specs.Header.{HeaderValue}
-use Rattle.header_codec.specs.Table.{Head, header, BeginsWith}
+use Rattle.header_codec.specs.Table.{HeaderFields, header, BeginsWith}
 
 -- What a session is worth: its settings, the bytes that it took, and whether a step answered an
 -- error.
@@ -17,15 +18,15 @@ pub record Session : Type 0 where
   pub stopped : Bool
 
 -- nothing is taken yet
-abbrev pub begun : Settings → Session
-begun settings = record { settings = settings; taken = []; stopped = false }
+abbrev pub new_header_session : Settings → Session
+new_header_session settings = record { settings = settings; taken = []; stopped = false }
 
 -- the bytes taken so far and the piece, as the table judges them
-abbrev pub read_now : Session → List ℕ → Reading Head
+abbrev pub read_now : Session → List ℕ → Reading HeaderFields
 read_now v piece = header v.settings (start (v.taken ++ piece))
 
 -- bytes are used up to the end of the piece, or of the header's authentication
-abbrev pub answer_to : Session → List ℕ → Reading Head → Result HeaderStep FieldError
+abbrev pub answer_to : Session → List ℕ → Reading HeaderFields → Result HeaderStep FieldError
 answer_to v piece (Read parts end) = Ok (record { used = end.at - length v.taken; ready = true })
 answer_to v piece (Refused fault at) = Err (errors.Fault fault)
 answer_to v piece Wanting = Ok (record { used = length piece; ready = false })
@@ -41,9 +42,9 @@ HeaderAnswers v piece (Err errors.Stopped) = answer v piece ≡ Err errors.Stopp
 HeaderAnswers v piece (Err (errors.Fault fault)) = answer v piece ≡ Err (errors.Fault fault)
 
 -- the session after a step: it took what was used, and any error stops it
-abbrev pub stepped : Session → List ℕ → Result HeaderStep FieldError → Session
-stepped v piece (Ok step) = record v { taken = v.taken ++ take step.used piece }
-stepped v piece (Err e) = record v { stopped = true }
+abbrev pub header_stepped : Session → List ℕ → Result HeaderStep FieldError → Session
+header_stepped v piece (Ok step) = record v { taken = v.taken ++ take step.used piece }
+header_stepped v piece (Err e) = record v { stopped = true }
 
 -- The header is shown once all of it was taken, and not before.
 abbrev pub ShowsHeader : Session → Option HeaderValue → Type 0

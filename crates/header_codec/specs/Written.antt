@@ -1,7 +1,8 @@
 -- The header that is written: frames, and the context's pairs in the order of their keys. Tests
 -- write headers of version 1.0 too. Standard: AWS Encryption SDK, message header, "Structure" of
 -- versions 1.0 and 2.0; the refusals Q7 and Q8 are this library's.
-use Rattle.std.specs.Prelude.{◌≡◌, ℕ, ◌≤◌, List, [], length, All, nat_lt, if◌then◌else◌, Option, Some, None}
+use Rattle.std.specs.Prelude.{◌≡◌, ℕ, ◌≤◌, List, [], length, All, nat_lt, if◌then◌else◌, Option}
+use Rattle.std.specs.Prelude.{Some, None}
 use Rattle.esdk_fields.specs.declared.contents.Content.{Content}
 use Rattle.esdk_fields.specs.declared.contents.Content.TheVariants.{Framed}
 use Rattle.esdk_fields.specs.declared.refusals.Refusal.{Refusal}
@@ -23,8 +24,8 @@ pub record HeaderParts : Type 0 where
   pub commitment : List ℕ
 
 -- A header of these parts, with this body and this authentication.
-abbrev pub header_of : HeaderParts → List ℕ → List ℕ → List ℕ → HeaderValue
-header_of parts raw iv tag = record {
+abbrev pub header_from : HeaderParts → List ℕ → List ℕ → List ℕ → HeaderValue
+header_from parts raw iv tag = record {
   suite = parts.opening.suite;
   message_id = parts.opening.id;
   stored = parts.stored;
@@ -37,12 +38,12 @@ header_of parts raw iv tag = record {
 }
 
 -- the header body of these parts (a header's text doesn't speak of its body and authentication)
-unfoldable pub body_of : HeaderParts → List ℕ
-body_of parts = header_text (ctx_text parts.stored) (header_of parts [] [] [])
+unfoldable pub body_of_parts : HeaderParts → List ℕ
+body_of_parts parts = header_text (ctx_text parts.stored) (header_from parts [] [] [])
 
 -- these parts, their body, and this authentication
-abbrev pub value_of : HeaderParts → List ℕ → List ℕ → HeaderValue
-value_of parts iv tag = header_of parts (body_of parts) iv tag
+abbrev pub header_value : HeaderParts → List ℕ → List ℕ → HeaderValue
+header_value parts iv tag = header_from parts (body_of_parts parts) iv tag
 
 -- Parts that a header can have.
 pub record AreParts (parts : HeaderParts) : Type 0 where
@@ -82,12 +83,12 @@ parts_with id stored entries frame commitment = record {
 -- the header body of these parts
 abbrev pub written_header : List ℕ → List KeyValue → List Entry → ℕ → List ℕ → List ℕ
 written_header id stored entries frame commitment =
-    body_of (parts_with id stored entries frame commitment)
+    body_of_parts (parts_with id stored entries frame commitment)
 
 -- these parts, their body, and this tag
 abbrev pub written_value : List ℕ → List KeyValue → List Entry → ℕ → List ℕ → List ℕ → HeaderValue
 written_value id stored entries frame commitment tag =
-    value_of (parts_with id stored entries frame commitment) zero_iv tag
+    header_value (parts_with id stored entries frame commitment) zero_iv tag
 
 -- Parts that such a header can have.
 abbrev pub AreHeaderParts : List ℕ → List KeyValue → List Entry → ℕ → List ℕ → Type 0
@@ -117,7 +118,7 @@ legacy_parts id stored entries content = record {
 
 -- the header body of these parts
 abbrev pub legacy_header : List ℕ → List KeyValue → List Entry → Content → List ℕ
-legacy_header id stored entries content = body_of (legacy_parts id stored entries content)
+legacy_header id stored entries content = body_of_parts (legacy_parts id stored entries content)
 
 -- how many bytes an entry's text has at most: three parts of 65,535 bytes, each behind two bytes of
 -- length

@@ -24,13 +24,13 @@ pub(crate) struct Intake {
 
 impl Model for Intake {
     ghost use Rattle.header_codec.specs.Intake.{IntakeValue};
-    ghost use Rattle.header_codec.specs.Progress.{Holds};
+    ghost use Rattle.header_codec.specs.Progress.{HasReadSoFar};
 
     ghost Value = { IntakeValue };
 
     ghost view = { λ a. record { settings = a.progress.settings; taken = a.taken.items } };
 
-    ghost invariant = { λ a. Holds a.taken.items a.progress };
+    ghost invariant = { λ a. HasReadSoFar a.taken.items a.progress };
 }
 
 /// Makes room for more bytes: an eighth of those that there are at the least, so that they are

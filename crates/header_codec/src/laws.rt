@@ -1,6 +1,8 @@
 //! Laws about headers. A law is a function that does nothing: its contract is what is proved.
 
-ghost use Rattle.header_codec.specs.Laws.{JudgesHeadersInOrder, ReadsSpelledHeaders, ReadsOneHeader, ReadsSomeHeader, RefusesTheFirstOffence, WritesHeaders, WrittenHeadersAreRead};
+ghost use Rattle.header_codec.specs.Laws.{JudgesHeadersInOrder, ReadsSpelledHeaders};
+ghost use Rattle.header_codec.specs.Laws.{ReadsOneHeader, ReadsSomeHeader, RefusesTheFirstOffence};
+ghost use Rattle.header_codec.specs.Laws.{WritesHeaders, WrittenHeadersAreRead};
 
 /// A fault stays when bytes follow, and comes with the last byte of its field, no earlier and no
 /// later; so does a whole header.

@@ -1,13 +1,14 @@
 //! How far a header was read, while its bytes come.
 
-ghost use Rattle.std.specs.Prelude.{◌≡◌, ◌+◌, ◌-◌, ◌≤◌, [], length, Some, None, is_some, true, IfErr, OnErr, OnOk};
+ghost use Rattle.std.specs.Prelude.{◌≡◌, ◌+◌, ◌-◌, ◌≤◌, [], length, Some, None, is_some, true};
+ghost use Rattle.std.specs.Prelude.{IfErr, OnErr, OnOk};
 ghost use Rattle.esdk_fields.specs.Bytes.{AreBytes};
 ghost use Rattle.esdk_fields.specs.Place.{start};
 ghost use Rattle.esdk_fields.specs.Gives.{StopsAt};
 ghost use Rattle.header_codec.specs.Found.{FindsHeader};
 ghost use Rattle.header_codec.specs.Table.{header};
-ghost use Rattle.header_codec.specs.Rest.{behind};
-ghost use Rattle.header_codec.specs.Progress.{Holds};
+ghost use Rattle.header_codec.specs.Rest.{place_past};
+ghost use Rattle.header_codec.specs.Progress.{HasReadSoFar};
 
 use crate::found::Found;
 use crate::header::Header;
@@ -47,7 +48,7 @@ pub(crate) struct Progress {
 /// A cursor behind the first `at` bytes.
 fn cursor_at<'a>(bytes: &'a [u8], at: usize) -> Cursor<'a>
     requires { at ≤ length bytes.now }
-    ensures place { result ≡ behind at bytes.entry.now }
+    ensures place { result ≡ place_past at bytes.entry.now }
     ensures bytes { AreBytes bytes.entry.now }
 {
     let mut cursor = Cursor::new(bytes);
@@ -75,8 +76,8 @@ impl Progress {
 
     /// Reads opening and context, where that wasn't done.
     fn read_front(&mut self, alloc: Global, bytes: &[u8]) -> Result<(), Stop>
-        requires { Holds bytes.now self.old }
-        ensures holds { Holds bytes.now self.new }
+        requires { HasReadSoFar bytes.now self.old }
+        ensures holds { HasReadSoFar bytes.now self.new }
         ensures settings { self.new.settings ≡ self.old.settings }
         ensures stops { IfErr result (λ stop. StopsAt stop
             (header self.old.settings (start bytes.now))) }
@@ -101,9 +102,9 @@ impl Progress {
 
     /// Reads the count of the encrypted data keys, where that wasn't done.
     fn read_count(&mut self, alloc: Global, bytes: &[u8]) -> Result<(), Stop>
-        requires holds { Holds bytes.now self.old }
+        requires holds { HasReadSoFar bytes.now self.old }
         requires front { is_some self.old.front ≡ true }
-        ensures holds { Holds bytes.now self.new }
+        ensures holds { HasReadSoFar bytes.now self.new }
         ensures settings { self.new.settings ≡ self.old.settings }
         ensures stops { IfErr result (λ stop. StopsAt stop
             (header self.old.settings (start bytes.now))) }
@@ -123,11 +124,11 @@ impl Progress {
 
     /// Reads the next entry; `left` says how many are still to be read.
     fn read_entry(&mut self, alloc: Global, left: u16, bytes: &[u8]) -> Result<(), Stop>
-        requires holds { Holds bytes.now self.old }
+        requires holds { HasReadSoFar bytes.now self.old }
         requires front { is_some self.old.front ≡ true }
         requires left { self.old.left ≡ Some left }
         requires some { 1 ≤ left }
-        ensures holds { Holds bytes.now self.new }
+        ensures holds { HasReadSoFar bytes.now self.new }
         ensures settings { self.new.settings ≡ self.old.settings }
         ensures stops { IfErr result (λ stop. StopsAt stop
             (header self.old.settings (start bytes.now))) }
@@ -145,10 +146,10 @@ impl Progress {
 
     /// Reads the entries that are still to be read.
     fn read_entries(&mut self, alloc: Global, bytes: &[u8]) -> Result<(), Stop>
-        requires holds { Holds bytes.now self.old }
+        requires holds { HasReadSoFar bytes.now self.old }
         requires front { is_some self.old.front ≡ true }
         requires left { is_some self.old.left ≡ true }
-        ensures holds { Holds bytes.now self.new }
+        ensures holds { HasReadSoFar bytes.now self.new }
         ensures settings { self.new.settings ≡ self.old.settings }
         ensures stops { IfErr result (λ stop. StopsAt stop
             (header self.old.settings (start bytes.now))) }
@@ -166,10 +167,10 @@ impl Progress {
     /// Reads what follows the encrypted data keys. Ok: the header, whose parts are given away; the
     /// bytes themselves are its body.
     fn read_ending(&mut self, alloc: Global, bytes: &mut Vec<u8>) -> Result<Found, Stop>
-        requires holds { Holds bytes.old.items self.old }
+        requires holds { HasReadSoFar bytes.old.items self.old }
         requires front { is_some self.old.front ≡ true }
         requires left { self.old.left ≡ Some 0 }
-        ensures holds { OnErr result (Holds bytes.new.items self.new) }
+        ensures holds { OnErr result (HasReadSoFar bytes.new.items self.new) }
         ensures bytes { OnErr result (bytes.new.items ≡ bytes.old.items) }
         ensures settings { self.new.settings ≡ self.old.settings }
         ensures finds { FindsHeader self.old.settings bytes.old.items result }
@@ -211,8 +212,8 @@ impl Progress {
     /// `Wanting` where neither a fault nor the header's authentication is whole in the bytes;
     /// `Memory` where memory runs out.
     pub(crate) fn advance(&mut self, alloc: Global, bytes: &mut Vec<u8>) -> Result<Found, Stop>
-        requires { Holds bytes.old.items self.old }
-        ensures holds { OnErr result (Holds bytes.new.items self.new) }
+        requires { HasReadSoFar bytes.old.items self.old }
+        ensures holds { OnErr result (HasReadSoFar bytes.new.items self.new) }
         ensures bytes { OnErr result (bytes.new.items ≡ bytes.old.items) }
         ensures settings { self.new.settings ≡ self.old.settings }
         ensures finds { FindsHeader self.old.settings bytes.old.items result }

@@ -2,7 +2,8 @@
 
 ghost use Rattle.std.specs.Prelude.{◌≡◌, None};
 ghost use Rattle.std.specs.Option.{option_copied};
-ghost use Rattle.header_codec.specs.Session.{Session, begun, HeaderAnswers, stepped, ShowsHeader};
+ghost use Rattle.header_codec.specs.Session.{Session, new_header_session, HeaderAnswers};
+ghost use Rattle.header_codec.specs.Session.{header_stepped, ShowsHeader};
 ghost use Rattle.header_codec.specs.Stands.{Stands};
 
 use crate::header::Header;
@@ -36,7 +37,7 @@ pub struct HeaderReader {
 impl HeaderReader {
     /// A reader that has taken nothing.
     pub fn new(alloc: Global, settings: Settings) -> HeaderReader
-        ensures { Stands result (begun settings) }
+        ensures { Stands result (new_header_session settings) }
     {
         HeaderReader {
             intake: Intake::new(alloc, settings),
@@ -54,7 +55,7 @@ impl HeaderReader {
     pub fn step(&mut self, alloc: Global, piece: &[u8]) -> Result<HeaderStep, FieldError>
         ensures answer { (v : Session) → Stands self.old v → HeaderAnswers v piece.now result }
         ensures stands { (v : Session) → Stands self.old v
-            → Stands self.new (stepped v piece.now result) }
+            → Stands self.new (header_stepped v piece.now result) }
     {
         if self.stopped {
             return Err(FieldError::Stopped);

@@ -5,7 +5,11 @@ ghost use Rattle.esdk_fields.specs.Gives.{Gives};
 ghost use Rattle.esdk_fields.specs.Reading.{bytes};
 ghost use Rattle.context_codec.specs.Split.{SpellsContext};
 ghost use Rattle.header_codec.specs.Header.{latest_end, content_type, frame_length};
-ghost use Rattle.header_codec.specs.Table.{is_version, suite_of_version, is_forbidden, is_content_type, is_frame_length, is_unit_over, content_of, type_field, suite_field, identity, opening, context_field, part, entry, reserved, content, header_iv};
+ghost use Rattle.header_codec.specs.Table.{is_version, suite_of_version, is_forbidden};
+ghost use Rattle.header_codec.specs.Table.{is_content_type, is_frame_length, is_unit_over};
+ghost use Rattle.header_codec.specs.Table.{content_of, type_field, suite_field, identity, opening};
+ghost use Rattle.header_codec.specs.Table.{context_field, entry_part, entry, reserved};
+ghost use Rattle.header_codec.specs.Table.{content_field, header_iv};
 ghost use Rattle.header_codec.specs.Parts.{raw_entry, raw_opening, ending_fields};
 ghost use Rattle.header_codec.specs.Rest.{keys_count, ending};
 
@@ -148,10 +152,10 @@ pub(crate) fn context_field_of<'a>(
 }
 
 /// A part of an entry. Its length says where it ends.
-#[tactic(auto, unfolding(crate::specs::Table::part))]
+#[tactic(auto, unfolding(crate::specs::Table::entry_part))]
 fn part_of<'a>(cursor: &mut Cursor<'a>) -> Result<&'a [u8], Stop>
     requires { cursor.old.at ≤ latest_end }
-    ensures reads { Gives (λ part. part.now) result cursor.new (part cursor.old) }
+    ensures reads { Gives (λ part. part.now) result cursor.new (entry_part cursor.old) }
     ensures within { OnOk result (cursor.new.at ≤ latest_end) }
     ensures short { IfOk result (λ part. length part.now ≤ 65535) }
 {
@@ -250,9 +254,9 @@ fn reserved_of(suite: Suite, cursor: &mut Cursor<'_>) -> Result<(), Stop>
 }
 
 /// Content type, reserved bytes and frame length.
-#[tactic(auto, unfolding(crate::specs::Table::content))]
+#[tactic(auto, unfolding(crate::specs::Table::content_field))]
 fn content_of(suite: Suite, max_unit: Option<u64>, cursor: &mut Cursor<'_>) -> Result<Content, Stop>
-    ensures { Gives (λ x. x) result cursor.new (content suite max_unit cursor.old) }
+    ensures { Gives (λ x. x) result cursor.new (content_field suite max_unit cursor.old) }
 {
     let kind = u8_of(cursor)?;
     if !is_content_type(kind) {

@@ -8,9 +8,13 @@ ghost use Rattle.esdk_fields.specs.Sized.{sized};
 ghost use Rattle.context_codec.specs.Context.{ctx_text};
 ghost use Rattle.context_codec.specs.Insert.{RefusesAs};
 ghost use Rattle.context_codec.specs.declared.insert.PairError.TheVariants as errors;
-ghost use Rattle.header_codec.specs.Header.{IsContent, version_text, opening_text, edks_text, reserved_text, content_text, content_type, frame_length};
+ghost use Rattle.header_codec.specs.Header.{IsContent, version_text, opening_text, edks_text};
+ghost use Rattle.header_codec.specs.Header.{reserved_text, content_text, content_type};
+ghost use Rattle.header_codec.specs.Header.{frame_length};
 ghost use Rattle.header_codec.specs.Parts.{raw_opening};
-ghost use Rattle.header_codec.specs.Written.{body_of, end_refusal, keys_end, header_refusal, legacy_header, longest_entry, uncommitted, written_header};
+ghost use Rattle.header_codec.specs.Written.{body_of_parts, end_refusal, keys_end, header_refusal};
+ghost use Rattle.header_codec.specs.Written.{legacy_header, longest_entry, uncommitted};
+ghost use Rattle.header_codec.specs.Written.{written_header};
 
 use crate::parts::RawOpening;
 use crate::table::{IV_LENGTH, LATEST_END, MESSAGE_TYPE};
@@ -97,7 +101,7 @@ fn header_within(
 ) -> Result<Blob, PairError>
     requires id { length opening.id.now ≡ id_length opening.suite }
     requires few { length entries.now ≤ 65535 }
-    ensures written { IfOk result (λ body. body ≡ body_of
+    ensures written { IfOk result (λ body. body ≡ body_of_parts
         (record {
           opening = raw_opening opening.entry;
           stored = stored.now;
@@ -172,7 +176,7 @@ fn entry_len(entry: &DataKeyEntry) -> u64
 }
 
 /// The fields of the body in their order.
-#[tactic(auto, unfolding(crate::specs::Written::body_of, crate::specs::Header::header_text), using(std::proofs::Common::append_assoc))]
+#[tactic(auto, unfolding(crate::specs::Written::body_of_parts, crate::specs::Header::header_text), using(std::proofs::Common::append_assoc))]
 fn header_body(
     alloc: Global,
     opening: RawOpening<'_>,
@@ -182,7 +186,7 @@ fn header_body(
     commitment: &[u8],
 ) -> Result<Blob, AllocError>
     requires { length entries.now ≤ 65535 }
-    ensures { IfOk result (λ body. body ≡ body_of
+    ensures { IfOk result (λ body. body ≡ body_of_parts
         (record {
           opening = raw_opening opening.entry;
           stored = stored.now;

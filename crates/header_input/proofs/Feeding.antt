@@ -11,9 +11,9 @@ use Rattle.esdk_fields.proofs.Fronts.{fault_after_at, value_from, read_after, re
 use Rattle.header_codec.specs.declared.session.HeaderReader.{HeaderReader}
 use Rattle.header_codec.specs.declared.session.HeaderStep.{HeaderStep}
 use Rattle.header_codec.specs.declared.settings.Settings.{Settings}
-use Rattle.header_codec.specs.Session.{answer, answer_to, stepped}
+use Rattle.header_codec.specs.Session.{answer, answer_to, header_stepped}
 use Rattle.header_codec.specs.Stands.{Stands}
-use Rattle.header_codec.specs.Table.{Head, header, opening}
+use Rattle.header_codec.specs.Table.{HeaderFields, header, opening}
 use Rattle.header_codec.proofs.Order.{IsSequential-header}
 use Rattle.header_input.specs.declared.errors.NoHeader.{NoHeader}
 use Rattle.header_input.specs.declared.errors.NoHeader.TheVariants as failures
@@ -21,9 +21,9 @@ use Rattle.esdk_base.specs.Streams.{SourceState}
 use Rattle.whole_input.specs.declared.pieces.End.{End}
 use Rattle.whole_input.specs.declared.pieces.End.TheVariants as ends
 use Rattle.whole_input.specs.Pieces.{NextPiece, PiecesValue}
-use Rattle.whole_input.specs.Taken.{Came, Piece}
+use Rattle.whole_input.specs.Taken.{Came, PieceCame}
 use Rattle.whole_input.proofs.Coming.{came_more, came_none, came_still}
-use Rattle.header_input.specs.Feeding.{session_of, Waits, Holds, Ends, Feeds}
+use Rattle.header_input.specs.Feeding.{header_session_of, Waits, HasTakenHeader, HeaderEnds, FeedsHeaderReader}
 use Rattle.header_input.specs.Taking.{HoldsHeader, NoneCame}
 
 -- ---- one step of the reader
@@ -31,8 +31,8 @@ use Rattle.header_input.specs.Taking.{HoldsHeader, NoneCame}
 ok_is : {T E : Type 0} (x y : T) → ◌≡◌ {A = Result T E} (Ok x) (Ok y) → x ≡ y
 ok_is x y same = cc
 
-fed_read : (settings : Settings) (taken piece : List ℕ) (parts : Head) (end : Place) (reader : HeaderReader) → header settings (start (taken ++ piece)) ≡ Read parts end
-    → header settings (start taken) ≡ Wanting → Stands reader (session_of settings (taken ++ take (end.at - length taken) piece)) → Ends settings reader taken piece
+fed_read : (settings : Settings) (taken piece : List ℕ) (parts : HeaderFields) (end : Place) (reader : HeaderReader) → header settings (start (taken ++ piece)) ≡ Read parts end
+    → header settings (start taken) ≡ Wanting → Stands reader (header_session_of settings (taken ++ take (end.at - length taken) piece)) → HeaderEnds settings reader taken piece
 fed_read settings taken piece parts end reader read wanting stands =
     let s = IsSequential-header settings in
     let used = end.at - length taken in
@@ -40,7 +40,7 @@ fed_read settings taken piece parts end reader read wanting stands =
     let sum : length taken + used ≡ end.at = omega arith in
     let front : take end.at (taken ++ piece) ≡ taken ++ take used piece = ap (λ (n : ℕ). take n (taken ++ piece)) (sym sum) ∙ take-append-add taken piece used in
     let within : end.at ≤ length (taken ++ piece) = read_within (header settings) (taken ++ piece) parts end s read in
-    let holds : Holds settings reader (taken ++ piece) =
+    let holds : HasTakenHeader settings reader (taken ++ piece) =
     record {
       taken = taken ++ take used piece;
       rest = drop used piece;
@@ -52,27 +52,27 @@ fed_read settings taken piece parts end reader read wanting stands =
     } in
     record { holds = holds; few = omega (arith, length-drop used piece, length-append taken piece, within, after) }
 
-fed_cases : (settings : Settings) (taken piece : List ℕ) (step : HeaderStep) (reader : HeaderReader) (r : Reading Head) → header settings (start (taken ++ piece)) ≡ r
-    → answer_to (session_of settings taken) piece r ≡ Ok step → header settings (start taken) ≡ Wanting → Stands reader (stepped (session_of settings taken) piece (Ok step))
-    → Feeds settings taken piece reader (Ok step.ready)
+fed_cases : (settings : Settings) (taken piece : List ℕ) (step : HeaderStep) (reader : HeaderReader) (r : Reading HeaderFields) → header settings (start (taken ++ piece)) ≡ r
+    → answer_to (header_session_of settings taken) piece r ≡ Ok step → header settings (start taken) ≡ Wanting → Stands reader (header_stepped (header_session_of settings taken) piece (Ok step))
+    → FeedsHeaderReader settings taken piece reader (Ok step.ready)
 fed_cases settings taken piece step reader (Read parts end) judged answers wanting =
-    let P : HeaderStep → Type 0 = λ s. Stands reader (stepped (session_of settings taken) piece (Ok s)) → Feeds settings taken piece reader (Ok s.ready) in
+    let P : HeaderStep → Type 0 = λ s. Stands reader (header_stepped (header_session_of settings taken) piece (Ok s)) → FeedsHeaderReader settings taken piece reader (Ok s.ready) in
     subst P (ok_is _ step answers) (λ stands. fed_read settings taken piece parts end reader judged wanting stands)
 fed_cases settings taken piece step reader (Refused fault at) judged answers wanting = absurd (cc)
 fed_cases settings taken piece step reader Wanting judged answers wanting =
-    let P : HeaderStep → Type 0 = λ s. Stands reader (stepped (session_of settings taken) piece (Ok s)) → Feeds settings taken piece reader (Ok s.ready) in
-    let Q : List ℕ → Type 0 = λ b. Stands reader (session_of settings (taken ++ b)) in
+    let P : HeaderStep → Type 0 = λ s. Stands reader (header_stepped (header_session_of settings taken) piece (Ok s)) → FeedsHeaderReader settings taken piece reader (Ok s.ready) in
+    let Q : List ℕ → Type 0 = λ b. Stands reader (header_session_of settings (taken ++ b)) in
     subst P (ok_is _ step answers) (λ stands. record { stands = subst Q (take-length piece) stands; wanting = judged })
 
 -- a step that takes all or some of a piece
-pub fed : (settings : Settings) (taken piece : List ℕ) (step : HeaderStep) (reader : HeaderReader) → answer (session_of settings taken) piece ≡ Ok step
-    → header settings (start taken) ≡ Wanting → Stands reader (stepped (session_of settings taken) piece (Ok step)) → Feeds settings taken piece reader (Ok step.ready)
+pub fed : (settings : Settings) (taken piece : List ℕ) (step : HeaderStep) (reader : HeaderReader) → answer (header_session_of settings taken) piece ≡ Ok step
+    → header settings (start taken) ≡ Wanting → Stands reader (header_stepped (header_session_of settings taken) piece (Ok step)) → FeedsHeaderReader settings taken piece reader (Ok step.ready)
 fed settings taken piece step reader answers wanting stands =
     fed_cases settings taken piece step reader (header settings (start (taken ++ piece))) refl answers wanting stands
 
-fault_cases : (settings : Settings) (taken piece : List ℕ) (fault : Fault) (reader : HeaderReader) (r : Reading Head) → header settings (start (taken ++ piece)) ≡ r
-    → answer_to (session_of settings taken) piece r ≡ Err (errors.Fault fault) → header settings (start taken) ≡ Wanting
-    → Feeds settings taken piece reader (Err (failures.Fault fault))
+fault_cases : (settings : Settings) (taken piece : List ℕ) (fault : Fault) (reader : HeaderReader) (r : Reading HeaderFields) → header settings (start (taken ++ piece)) ≡ r
+    → answer_to (header_session_of settings taken) piece r ≡ Err (errors.Fault fault) → header settings (start taken) ≡ Wanting
+    → FeedsHeaderReader settings taken piece reader (Err (failures.Fault fault))
 fault_cases settings taken piece fault reader (Read parts end) judged answers wanting = absurd (cc)
 fault_cases settings taken piece fault reader (Refused f at) judged answers wanting =
     let same : f ≡ fault = cc in
@@ -82,24 +82,24 @@ fault_cases settings taken piece fault reader (Refused f at) judged answers want
 fault_cases settings taken piece fault reader Wanting judged answers wanting = absurd (cc)
 
 -- a step that finds a fault
-pub fed_fault : (settings : Settings) (taken piece : List ℕ) (fault : Fault) (reader : HeaderReader) → answer (session_of settings taken) piece ≡ Err (errors.Fault fault)
-    → header settings (start taken) ≡ Wanting → Feeds settings taken piece reader (Err (failures.Fault fault))
+pub fed_fault : (settings : Settings) (taken piece : List ℕ) (fault : Fault) (reader : HeaderReader) → answer (header_session_of settings taken) piece ≡ Err (errors.Fault fault)
+    → header settings (start taken) ≡ Wanting → FeedsHeaderReader settings taken piece reader (Err (failures.Fault fault))
 fed_fault settings taken piece fault reader answers wanting =
     fault_cases settings taken piece fault reader (header settings (start (taken ++ piece))) refl answers wanting
 
-stopped_cases : (settings : Settings) (taken piece : List ℕ) (r : Reading Head) → answer_to (session_of settings taken) piece r ≡ Err errors.Stopped → ⊥
+stopped_cases : (settings : Settings) (taken piece : List ℕ) (r : Reading HeaderFields) → answer_to (header_session_of settings taken) piece r ≡ Err errors.Stopped → ⊥
 stopped_cases settings taken piece (Read parts end) answers = cc
 stopped_cases settings taken piece (Refused f at) answers = cc
 stopped_cases settings taken piece Wanting answers = cc
 
 -- a reader that met no error isn't stopped
-pub fed_not_stopped : (settings : Settings) (taken piece : List ℕ) → answer (session_of settings taken) piece ≡ Err errors.Stopped → ⊥
+pub fed_not_stopped : (settings : Settings) (taken piece : List ℕ) → answer (header_session_of settings taken) piece ≡ Err errors.Stopped → ⊥
 fed_not_stopped settings taken piece answers = stopped_cases settings taken piece (header settings (start (taken ++ piece))) answers
 
 -- the same piece is fed
-pub fed_same : (settings : Settings) (taken piece same : List ℕ) (reader : HeaderReader) (r : Result Bool NoHeader) → piece ≡ same → Feeds settings taken piece reader r
-    → Feeds settings taken same reader r
-fed_same settings taken piece same reader r is = subst (λ (b : List ℕ). Feeds settings taken b reader r) is
+pub fed_same : (settings : Settings) (taken piece same : List ℕ) (reader : HeaderReader) (r : Result Bool NoHeader) → piece ≡ same → FeedsHeaderReader settings taken piece reader r
+    → FeedsHeaderReader settings taken same reader r
+fed_same settings taken piece same reader r is = subst (λ (b : List ℕ). FeedsHeaderReader settings taken b reader r) is
 
 -- ---- the loop
 
@@ -118,7 +118,7 @@ unfolding header opening
 wanting_first settings = refl
 
 pub going_first : (settings : Settings) (first : SourceState) (v : PiecesValue) (reader : HeaderReader) → v ≡ record { taken = 0; piece = [] }
-    → Stands reader (session_of settings []) → Going settings first first v.taken reader
+    → Stands reader (header_session_of settings []) → Going settings first first v.taken reader
 going_first settings first v reader none stands = record {
   bytes = [];
   count = ap (λ (w : PiecesValue). w.taken) (sym none);
@@ -130,7 +130,7 @@ going_first settings first v reader none stands = record {
 
 -- a piece came, and it is fed
 pub going_on : (settings : Settings) (first now new : SourceState) (taken : ℕ) (v : PiecesValue) (reader grown : HeaderReader) (going : Going settings first now taken reader)
-    → Piece 65536 now new v.piece → v.taken ≡ taken + length v.piece → v.taken ≤ 2 ^ 62 → Feeds settings going.bytes v.piece grown (Ok false)
+    → PieceCame 65536 now new v.piece → v.taken ≡ taken + length v.piece → v.taken ≤ 2 ^ 62 → FeedsHeaderReader settings going.bytes v.piece grown (Ok false)
     → Going settings first new v.taken grown
 going_on settings first now new taken v reader grown going piece count most feeds = record {
   bytes = going.bytes ++ v.piece;
@@ -143,7 +143,7 @@ going_on settings first now new taken v reader grown going piece count most feed
 
 -- the header ends in the piece
 pub going_whole : (settings : Settings) (first now new : SourceState) (taken : ℕ) (piece : List ℕ) (reader grown : HeaderReader) (going : Going settings first now taken reader)
-    → Piece 65536 now new piece → Feeds settings going.bytes piece grown (Ok true) → HoldsHeader settings grown first new
+    → PieceCame 65536 now new piece → FeedsHeaderReader settings going.bytes piece grown (Ok true) → HoldsHeader settings grown first new
 going_whole settings first now new taken piece reader grown going came feeds = record {
   bytes = going.bytes ++ piece;
   holds = feeds.holds;
@@ -154,7 +154,7 @@ going_whole settings first now new taken piece reader grown going came feeds = r
 
 -- the piece is refused
 pub going_refused : (settings : Settings) (first now new : SourceState) (taken : ℕ) (piece : List ℕ) (reader grown : HeaderReader) (error : NoHeader)
-    (going : Going settings first now taken reader) → Piece 65536 now new piece → Feeds settings going.bytes piece grown (Err error)
+    (going : Going settings first now taken reader) → PieceCame 65536 now new piece → FeedsHeaderReader settings going.bytes piece grown (Err error)
     → NoneCame settings first new error
 going_refused settings first now new taken piece reader grown (failures.Fault fault) going came feeds = record {
   bytes = going.bytes ++ piece;

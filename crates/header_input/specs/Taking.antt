@@ -14,14 +14,14 @@ use Rattle.whole_input.specs.Pieces.{APieceBehind}
 use Rattle.whole_input.specs.Taken.{Came, EndSeen, MostTaken}
 use Rattle.header_input.specs.declared.errors.NoHeader.{NoHeader}
 use Rattle.header_input.specs.declared.errors.NoHeader.TheVariants as errors
-use Rattle.header_input.specs.Feeding.{Holds}
+use Rattle.header_input.specs.Feeding.{HasTakenHeader}
 
 -- The bytes that came begin with what the reader took, a whole header with its authentication;
 -- fewer than a piece of 65,536 stand behind it, and no read failed.
 pub record HoldsHeader (settings : Settings) (reader : HeaderReader)
     (old new : SourceState) : Type 0 where
   pub bytes : List ℕ
-  pub holds : Holds settings reader bytes
+  pub holds : HasTakenHeader settings reader bytes
   pub came : Came old new bytes
   pub few : length holds.rest < 65536
   pub faults : new.faults ≡ old.faults
@@ -53,7 +53,7 @@ pub record ReadFailed (settings : Settings) (old new : SourceState) : Type 0 whe
   pub rose : Rose old.faults new.faults
 
 -- 2^62 bytes of the input came, no read failed, and they neither have a fault nor a whole header.
-pub record IsTooLong (settings : Settings) (old new : SourceState) : Type 0 where
+pub record HeaderInputIsTooLong (settings : Settings) (old new : SourceState) : Type 0 where
   pub bytes : List ℕ
   pub came : Came old new bytes
   pub most : MostTaken old new bytes
@@ -61,7 +61,7 @@ pub record IsTooLong (settings : Settings) (old new : SourceState) : Type 0 wher
 
 -- Memory ran out at the last piece that came; what came before it is the beginning of a header, and
 -- no read failed.
-pub record LacksMemory (settings : Settings) (old new : SourceState) : Type 0 where
+pub record HeaderInputLacksMemory (settings : Settings) (old new : SourceState) : Type 0 where
   pub bytes : List ℕ
   pub came : Came old new bytes
   pub last : APieceBehind (λ before. header settings (start before) ≡ Wanting) bytes
@@ -72,5 +72,5 @@ abbrev pub NoneCame : Settings → SourceState → SourceState → NoHeader → 
 NoneCame settings old new (errors.Fault fault) = FaultCame settings fault old new
 NoneCame settings old new (errors.End ends.Seen) = EndCame settings old new
 NoneCame settings old new (errors.End ends.Failed) = ReadFailed settings old new
-NoneCame settings old new (errors.End ends.TooLong) = IsTooLong settings old new
-NoneCame settings old new errors.Memory = LacksMemory settings old new
+NoneCame settings old new (errors.End ends.TooLong) = HeaderInputIsTooLong settings old new
+NoneCame settings old new errors.Memory = HeaderInputLacksMemory settings old new

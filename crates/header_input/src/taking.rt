@@ -1,7 +1,7 @@
 //! Taking a header from a source.
 ghost use Rattle.std.specs.Prelude.{◌≡◌, ◌+◌, ◌≤◌, ◌^◌, List, ℕ, IfOk, IfErr};
 ghost use Rattle.header_codec.specs.declared.settings.Settings.{Settings};
-ghost use Rattle.header_input.specs.Feeding.{Feeds, Waits};
+ghost use Rattle.header_input.specs.Feeding.{FeedsHeaderReader, Waits};
 ghost use Rattle.header_input.specs.Taking.{HoldsHeader, NoneCame};
 
 use crate::errors::NoHeader;
@@ -50,7 +50,7 @@ pub fn take_header<S: Source>(
 fn feed(alloc: Global, reader: &mut HeaderReader, piece: &[u8]) -> Result<bool, NoHeader>
     requires { (settings : Settings) × (taken : List ℕ) × Waits settings reader.old taken }
     ensures { (settings : Settings) (taken : List ℕ) → Waits settings reader.old taken
-        → Feeds settings taken piece.now reader.new result }
+        → FeedsHeaderReader settings taken piece.now reader.new result }
 {
     match reader.step(alloc, piece) {
         Ok(step) => Ok(step.ready),

@@ -6,30 +6,30 @@ use Rattle.serde_json.specs.declared.value.Value.{Value}
 use Rattle.serde_json.specs.View.{view, items_view, members_view}
 use Rattle.serde_json.proofs.Views.{Entry}
 use Rattle.context_codec.specs.Context.{KeyValue}
-use Rattle.job_file.specs.JobForm.{with_pair, pairs_in, with_required, keys_in}
+use Rattle.job_file.specs.JobForm.{with_pair, member_pairs, with_required, keys_in}
 use Rattle.job_file.specs.Found.{only_if}
 
 -- ---- pairs
 
 -- the first of these entries is inserted
 pub pair_more : (context grown : List KeyValue) (entries rest : List Entry) (e : Entry) (inserted : Bool) → entries ≡ e ∷ rest
-    → with_pair context (string_bytes e.0) (view e.1) ≡ only_if inserted grown → inserted ≡ true → pairs_in context (members_view entries) ≡ pairs_in grown (members_view rest)
-unfolding pairs_in
+    → with_pair context (string_bytes e.0) (view e.1) ≡ only_if inserted grown → inserted ≡ true → member_pairs context (members_view entries) ≡ member_pairs grown (members_view rest)
+unfolding member_pairs
 pair_more context grown entries rest e inserted is made taken =
     let one : with_pair context (string_bytes e.0) (view e.1) ≡ Some grown = made ∙ ap (λ b. only_if b grown) taken in
-    ap (λ es. pairs_in context (members_view es)) is ∙ rw one refl
+    ap (λ es. member_pairs context (members_view es)) is ∙ rw one refl
 
 -- or it isn't
 pub pair_fails : (context grown : List KeyValue) (entries rest : List Entry) (e : Entry) (inserted : Bool) → entries ≡ e ∷ rest
-    → with_pair context (string_bytes e.0) (view e.1) ≡ only_if inserted grown → inserted ≡ false → pairs_in context (members_view entries) ≡ None
-unfolding pairs_in
+    → with_pair context (string_bytes e.0) (view e.1) ≡ only_if inserted grown → inserted ≡ false → member_pairs context (members_view entries) ≡ None
+unfolding member_pairs
 pair_fails context grown entries rest e inserted is made left =
     let none : with_pair context (string_bytes e.0) (view e.1) ≡ None = made ∙ ap (λ b. only_if b grown) left in
-    ap (λ es. pairs_in context (members_view es)) is ∙ rw none refl
+    ap (λ es. member_pairs context (members_view es)) is ∙ rw none refl
 
-pub pairs_done : (context : List KeyValue) (entries : List Entry) → entries ≡ [] → pairs_in context (members_view entries) ≡ Some context
-unfolding pairs_in
-pairs_done context entries is = ap (λ es. pairs_in context (members_view es)) is
+pub pairs_done : (context : List KeyValue) (entries : List Entry) → entries ≡ [] → member_pairs context (members_view entries) ≡ Some context
+unfolding member_pairs
+pairs_done context entries is = ap (λ es. member_pairs context (members_view es)) is
 
 -- ---- keys
 

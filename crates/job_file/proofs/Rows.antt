@@ -7,7 +7,7 @@ use Rattle.serde_json.specs.View.{view, items_view}
 use Rattle.esdk_fields.specs.declared.refusals.FileRefusal.{FileRefusal}
 use Rattle.esdk_fields.specs.declared.refusals.FileRefusal.TheVariants.{BadShape}
 use Rattle.serde_json.specs.Data.{Data}
-use Rattle.job_file.specs.Jobs.{then_read, each_from}
+use Rattle.job_file.specs.Jobs.{then_made, each_from}
 
 -- what was read, behind these
 abbrev pub behind : {A E : Type 0} → List A → Result (List A) E → Result (List A) E
@@ -23,7 +23,7 @@ regrouped front x (Ok rest) = ap Ok (sym (append_assoc front (x ∷ []) rest))
 regrouped front x (Err e) = refl
 
 -- what is read of the others, behind this one
-behind_one : {A : Type 0} (one : A) (left : Result (List A) FileRefusal) → then_read left (λ others. Ok (one ∷ others)) ≡ behind (one ∷ []) left
+behind_one : {A : Type 0} (one : A) (left : Result (List A) FileRefusal) → then_made left (λ others. Ok (one ∷ others)) ≡ behind (one ∷ []) left
 behind_one one (Ok others) = refl
 behind_one one (Err refusal) = refl
 

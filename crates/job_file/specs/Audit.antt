@@ -4,7 +4,7 @@ use Rattle.esdk_fields.specs.declared.refusals.FileRefusal.{FileRefusal}
 use Rattle.esdk_fields.specs.declared.refusals.FileRefusal.TheVariants.{NotJson, BadShape}
 use Rattle.serde_json.specs.Data.{Items}
 use Rattle.serde_json.specs.View.{items_view}
-use Rattle.json_values.specs.Values.{value_of}
+use Rattle.json_values.specs.Values.{json_value}
 use Rattle.job_file.specs.declared.audit.AuditMessage.{AuditMessage}
 use Rattle.job_file.specs.declared.audit_reading.AuditHead as found
 use Rattle.job_file.specs.AuditFile.{AuditFile}
@@ -20,7 +20,7 @@ messages_from number items = each_from audit_message_of number items
 -- another form.
 unfoldable pub audit_of : (bytes : List ℕ) → Result AuditFile FileRefusal
 audit_of bytes = do
-  file ← or_refuse NotJson (value_of bytes)
+  file ← or_refuse NotJson (json_value bytes)
   head ← or_refuse (BadShape 0) (audit_head_of file)
   messages ← messages_from 1 head.messages
   Ok (record { keyring = head.keyring; messages = messages })

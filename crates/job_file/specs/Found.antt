@@ -11,10 +11,10 @@ use Rattle.cmm_caching.specs.Limits.{AreLimits}
 use Rattle.json_values.specs.declared.errors.ReadError.{ReadError}
 use Rattle.json_values.specs.declared.errors.ReadError.TheVariants.{File, Memory}
 use Rattle.job_file.specs.declared.head.Head as head
-use Rattle.job_file.specs.JobForm.{Head}
+use Rattle.job_file.specs.JobForm.{JobFileHead}
 
 -- what a file says of itself
-abbrev pub head_value : head.Head → Head
+abbrev pub head_value : head.Head → JobFileHead
 head_value h = record {
   keyring = h.keyring.now;
   width = h.width;
@@ -39,10 +39,10 @@ pub record IsHead (h : head.Head) : Type 0 where
   pub few : length h.jobs.now ≤ 1000
 
 -- What this value means, or this refusal; want of memory may come at any time.
-abbrev pub Reads : {A B : Type 0} → (A → B) → Result A ReadError → Result B FileRefusal → Type 0
-Reads means (Ok x) reading = reading ≡ Ok (means x)
-Reads means (Err (File refusal)) reading = reading ≡ Err refusal
-Reads means (Err Memory) reading = Unit {0}
+abbrev pub MeansThis : {A B : Type 0} → (A → B) → Result A ReadError → Result B FileRefusal → Type 0
+MeansThis means (Ok x) reading = reading ≡ Ok (means x)
+MeansThis means (Err (File refusal)) reading = reading ≡ Err refusal
+MeansThis means (Err Memory) reading = Unit {0}
 
 -- The set has the names that pass this test, and no others.
 abbrev pub HasThose : BTreeSet (Bor (List ℕ)) → (List ℕ → Bool) → Type 0

@@ -13,7 +13,8 @@ use Rattle.context_codec.specs.Context.{KeyValue}
 use Rattle.context_codec.specs.Insert.{refusal_of}
 use Rattle.context_codec.specs.KeySet.{has, with_key}
 use Rattle.context_codec.specs.Parts.{holds}
-use Rattle.json_values.specs.Values.{◌>>=◌, ◌>>◌, provided, member_count, number_at, present, text_at}
+use Rattle.json_values.specs.Values.{◌>>=◌, ◌>>◌, provided, member_count, member_number, present}
+use Rattle.json_values.specs.Values.{text_at}
 use Rattle.job_file.specs.declared.job.Job.{Job}
 use Rattle.job_file.specs.declared.job.Work.{Work}
 use Rattle.job_file.specs.declared.job.Work.TheVariants.{Encrypt, Decrypt}
@@ -26,23 +27,23 @@ unless_absent None absent found = Some absent
 unless_absent (Some d) absent found = found
 
 -- the number, where it lies between these
-abbrev pub within : ℕ → ℕ → ℕ → Option ℕ
-within least most n = if nat_le least n && nat_le n most then Some n else None
+abbrev pub number_within : ℕ → ℕ → ℕ → Option ℕ
+number_within least most n = if nat_le least n && nat_le n most then Some n else None
 
 -- the number that the member of this name is, which lies between these
 unfoldable pub number_from : ℕ → ℕ → List ℕ → Data → Option ℕ
-number_from least most name d = number_at name d >>= within least most
+number_from least most name d = member_number name d >>= number_within least most
 
 -- the same, or another number where the member is absent
-unfoldable pub number_or : ℕ → ℕ → ℕ → List ℕ → Data → Option ℕ
-number_or least most absent name d =
+unfoldable pub member_number_or : ℕ → ℕ → ℕ → List ℕ → Data → Option ℕ
+member_number_or least most absent name d =
     unless_absent (get name d) absent (number_from least most name d)
 
 -- ---- the file's own members
 
 -- {"capacity":N,"age":N,"messages":N,"bytes":N}
-unfoldable pub limits_of : Data → Option LimitsValue
-limits_of d = do
+unfoldable pub cache_limits : Data → Option LimitsValue
+cache_limits d = do
   provided (member_count d == 4)
   capacity ← number_from 1 65536 (codes "capacity") d
   age ← number_from 1 (2 ^ 64 - 1) (codes "age") d
@@ -54,7 +55,7 @@ limits_of d = do
 unfoldable pub cache_at : Data → Option (Option LimitsValue)
 cache_at d =
     unless_absent (get (codes "cache") d) None
-    (option_map Some (get (codes "cache") d >>= limits_of))
+    (option_map Some (get (codes "cache") d >>= cache_limits))
 
 abbrev pub length_of_items : Items → ℕ
 length_of_items no_items = 0
@@ -70,7 +71,7 @@ unfoldable pub items_at : List ℕ → Data → Option Items
 items_at name d = get name d >>= as_array >>= some_items
 
 -- What a file says of itself, and its jobs, of which nothing is read yet.
-pub record Head : Type 0 where
+pub record JobFileHead : Type 0 where
   pub keyring : List ℕ
   pub width : ℕ
   pub piece : ℕ
@@ -79,15 +80,15 @@ pub record Head : Type 0 where
 
 -- {"version":1,"keyring":TEXT,"width":N,"piece":N,"cache":{..},"jobs":[..]}, where the width is 4,
 -- the piece 65,536 bytes and the cache off where they are absent
-unfoldable pub head_of : Data → Option Head
-head_of d = do
+unfoldable pub job_file_head : Data → Option JobFileHead
+job_file_head d = do
   provided
       (member_count d
       == 3 + present (codes "width") d + present (codes "piece") d + present (codes "cache") d)
   version ← number_from 1 1 (codes "version") d
   keyring ← text_at (codes "keyring") d
-  width ← number_or 1 64 4 (codes "width") d
-  piece ← number_or 1 65536 65536 (codes "piece") d
+  width ← member_number_or 1 64 4 (codes "width") d
+  piece ← member_number_or 1 65536 65536 (codes "piece") d
   cache ← cache_at d
   jobs ← items_at (codes "jobs") d
   Some (record { keyring = keyring; width = width; piece = piece; cache = cache; jobs = jobs })
@@ -103,15 +104,15 @@ with_pair context key d = do
   Some (insert_entry (slice_cmp nat_cmp) context key value)
 
 -- the context with these members as pairs, one after another
-unfoldable pub pairs_in : List KeyValue → Members → Option (List KeyValue)
-pairs_in context no_members = Some context
-pairs_in context (member key d members) = do
+unfoldable pub member_pairs : List KeyValue → Members → Option (List KeyValue)
+member_pairs context no_members = Some context
+member_pairs context (member key d members) = do
   grown ← with_pair context key d
-  pairs_in grown members
+  member_pairs grown members
 
 -- {KEY:VALUE, ..}; no pairs, where the member is absent
 unfoldable pub context_at : List ℕ → Data → Option (List KeyValue)
-context_at name d = unless_absent (get name d) [] (get name d >>= as_object >>= pairs_in [])
+context_at name d = unless_absent (get name d) [] (get name d >>= as_object >>= member_pairs [])
 
 -- the keys with one more, where it is a text, a key of the context and none of the keys so far
 unfoldable pub with_required : List KeyValue → List (List ℕ) → Data → Option (List (List ℕ))
@@ -147,7 +148,7 @@ encryption_of d = do
       == 3 + present (codes "length") d + present (codes "frame") d + present (codes "context") d
       + present (codes "required") d)
   length ← length_at d
-  frame ← number_or 1 (2 ^ 32 - 1) 4096 (codes "frame") d
+  frame ← member_number_or 1 (2 ^ 32 - 1) 4096 (codes "frame") d
   context ← context_at (codes "context") d
   required ← required_at context d
   Some (Encrypt length frame context required)

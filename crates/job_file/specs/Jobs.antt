@@ -6,21 +6,21 @@ use Rattle.esdk_fields.specs.declared.refusals.FileRefusal.TheVariants.{NotJson,
 use Rattle.esdk_fields.specs.declared.refusals.FileRefusal.TheVariants.{NamesClash}
 use Rattle.serde_json.specs.Data.{Data, Items, no_items, item}
 use Rattle.context_codec.specs.KeySet.{has}
-use Rattle.json_values.specs.Values.{value_of}
+use Rattle.json_values.specs.Values.{json_value}
 use Rattle.job_file.specs.declared.job.Job.{Job}
 use Rattle.job_file.specs.JobFile.{JobFile, is_written}
-use Rattle.job_file.specs.JobForm.{Head, head_of, job_of}
+use Rattle.job_file.specs.JobForm.{JobFileHead, job_file_head, job_of}
 
 -- where there is a value, the reading that it chooses goes on
-abbrev pub then_read : {A B : Type 0} → Result A FileRefusal → (A → Result B FileRefusal)
+abbrev pub then_made : {A B : Type 0} → Result A FileRefusal → (A → Result B FileRefusal)
     → Result B FileRefusal
-then_read (Ok x) next = next x
-then_read (Err refusal) next = Err refusal
+then_made (Ok x) next = next x
+then_made (Err refusal) next = Err refusal
 
 infixl 10 ◌>>=◌
 abbrev pub ◌>>=◌ : {A B : Type 0} → Result A FileRefusal → (A → Result B FileRefusal)
     → Result B FileRefusal
-(found >>= next) = then_read found next
+(found >>= next) = then_made found next
 
 -- this value, if there is one; else this refusal
 abbrev pub or_refuse : {A : Type 0} → FileRefusal → Option A → Result A FileRefusal
@@ -54,8 +54,8 @@ abbrev pub read_names : List ℕ → List ℕ → List Job → List (List ℕ)
 read_names own_name keyring jobs = own_name ∷ keyring ∷ map (λ job. job.from) jobs
 
 -- the file of these jobs
-abbrev pub file_of : Head → List Job → JobFile
-file_of head jobs = record {
+abbrev pub job_file_of : JobFileHead → List Job → JobFile
+job_file_of head jobs = record {
   keyring = head.keyring;
   width = head.width;
   piece = head.piece;
@@ -73,7 +73,7 @@ unless_clash (Some name) file = Err (NamesClash name)
 -- that has another form; K9, where a name clashes.
 unfoldable pub jobs_of : (bytes own_name : List ℕ) → Result JobFile FileRefusal
 jobs_of bytes own_name = do
-  file ← or_refuse NotJson (value_of bytes)
-  head ← or_refuse (BadShape 0) (head_of file)
+  file ← or_refuse NotJson (json_value bytes)
+  head ← or_refuse (BadShape 0) (job_file_head file)
   jobs ← jobs_from 1 head.jobs
-  unless_clash (clash_among (read_names own_name head.keyring jobs) [] jobs) (file_of head jobs)
+  unless_clash (clash_among (read_names own_name head.keyring jobs) [] jobs) (job_file_of head jobs)

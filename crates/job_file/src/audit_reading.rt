@@ -4,7 +4,7 @@ ghost use Rattle.std.specs.Prelude.{◌≡◌, ◌≤◌, length, option_map, If
 ghost use Rattle.serde_json.specs.View.{items_view, view};
 ghost use Rattle.job_file.specs.Audit.{audit_head_value, audit_of, messages_from};
 ghost use Rattle.job_file.specs.AuditForm.{audit_head_of, audit_message_of};
-ghost use Rattle.job_file.specs.Found.{Reads};
+ghost use Rattle.job_file.specs.Found.{MeansThis};
 
 use crate::audit::{Audit, AuditMessage};
 use crate::contexts::context_at;
@@ -32,7 +32,7 @@ struct AuditHead<'a> {
 /// number of the first message that has another form. `Memory` where memory runs out.
 #[tactic(auto, unfolding(crate::specs::Audit::audit_of))]
 pub fn read_audit(alloc: Global, bytes: &[u8]) -> Result<Audit, ReadError>
-    ensures { Reads (λ audit. audit) result (audit_of bytes.now) }
+    ensures { MeansThis (λ audit. audit) result (audit_of bytes.now) }
 {
     let file = value_of(alloc, bytes)?;
     let Some(head) = audit_head_of(&file) else {
@@ -64,7 +64,7 @@ fn audit_head_of(file: &Value) -> Option<AuditHead<'_>>
 /// another form.
 fn messages_in(alloc: Global, values: &[Value]) -> Result<Vec<AuditMessage>, ReadError>
     requires { length values.now ≤ 1000 }
-    ensures value { Reads (λ messages. messages.items) result
+    ensures value { MeansThis (λ messages. messages.items) result
         (messages_from 1 (items_view values.now)) }
     ensures count { IfOk result (λ messages. length messages.items ≡ length values.now) }
 {

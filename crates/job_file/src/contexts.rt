@@ -5,7 +5,7 @@ ghost use Rattle.std.specs.List.{list_all};
 ghost use Rattle.serde_json.specs.View.{view, items_view, members_view};
 ghost use Rattle.context_codec.specs.KeySet.{has};
 ghost use Rattle.context_codec.specs.Parts.{holds};
-ghost use Rattle.job_file.specs.JobForm.{context_at, with_pair, pairs_in, required_at};
+ghost use Rattle.job_file.specs.JobForm.{context_at, with_pair, member_pairs, required_at};
 ghost use Rattle.job_file.specs.JobForm.{with_required, keys_in};
 ghost use Rattle.job_file.specs.Found.{only_if};
 
@@ -31,7 +31,8 @@ pub fn context_at(alloc: Global, value: &Value, name: &str) -> Result<Option<Con
 
 /// The context of these members.
 fn pairs_in(alloc: Global, members: &Map<String, Value>) -> Result<Option<Context>, AllocError>
-    ensures { IfOk result (λ context. context ≡ pairs_in [] (members_view members.now.entries)) }
+    ensures { IfOk result (λ context. context ≡ member_pairs []
+        (members_view members.now.entries)) }
 {
     let mut context = Context::new(alloc);
     for (key, value) in members {

@@ -3,7 +3,8 @@
 ghost use Rattle.std.specs.Prelude.{◌≡◌, ◌≤◌, ◌<◌, option_map, IfSome, length};
 ghost use Rattle.serde_json.specs.View.{view, items_view};
 ghost use Rattle.cmm_caching.specs.Limits.{AreLimits};
-ghost use Rattle.job_file.specs.JobForm.{limits_of, cache_at, some_items, items_at, head_of};
+ghost use Rattle.job_file.specs.JobForm.{cache_limits, cache_at, some_items, items_at};
+ghost use Rattle.job_file.specs.JobForm.{job_file_head};
 ghost use Rattle.job_file.specs.Found.{IsHead, head_value};
 
 use crate::numbers::{number_from, number_or};
@@ -26,9 +27,9 @@ pub(crate) struct Head<'a> {
 
 /// What a file says of itself. None exactly where its own members don't have the form of a job
 /// file.
-#[tactic(auto, unfolding(crate::specs::JobForm::head_of))]
+#[tactic(auto, unfolding(crate::specs::JobForm::job_file_head))]
 pub(crate) fn head_of(file: &Value) -> Option<Head<'_>>
-    ensures value { option_map head_value result ≡ head_of (view file.now) }
+    ensures value { option_map head_value result ≡ job_file_head (view file.now) }
     ensures bounded { IfSome result IsHead }
 {
     let optional = present(file, "width") + present(file, "piece") + present(file, "cache");
@@ -63,9 +64,9 @@ fn cache_at(file: &Value) -> Option<Option<CacheLimits>>
 }
 
 /// The limits that all four members give.
-#[tactic(auto, unfolding(crate::specs::JobForm::limits_of))]
+#[tactic(auto, unfolding(crate::specs::JobForm::cache_limits))]
 fn limits_of(cache: &Value) -> Option<CacheLimits>
-    ensures value { result ≡ limits_of (view cache.now) }
+    ensures value { result ≡ cache_limits (view cache.now) }
     ensures limits { IfSome result AreLimits }
 {
     if member_count(cache) != 4 {

@@ -2,7 +2,7 @@
 
 ghost use Rattle.std.specs.Prelude.{◌≡◌, ◌≤◌, ◌-◌, ◌^◌, IfSome};
 ghost use Rattle.serde_json.specs.View.{view};
-ghost use Rattle.job_file.specs.JobForm.{within, number_from, number_or, length_at};
+ghost use Rattle.job_file.specs.JobForm.{number_within, number_from, member_number_or, length_at};
 
 use serde_json::Value;
 
@@ -20,7 +20,7 @@ pub fn number_from(value: &Value, name: &str, least: u64, most: u64) -> Option<u
 
 /// The number, where it lies between these.
 fn within(number: u64, least: u64, most: u64) -> Option<u64>
-    ensures value { result ≡ within least most number }
+    ensures value { result ≡ number_within least most number }
     ensures least { IfSome result (λ n. least ≤ n) }
     ensures most { IfSome result (λ n. n ≤ most) }
 {
@@ -33,7 +33,7 @@ fn within(number: u64, least: u64, most: u64) -> Option<u64>
 
 /// The number that the member of this name is, from the least to the most; another number where the
 /// member is absent.
-#[tactic(auto, unfolding(crate::specs::JobForm::number_or))]
+#[tactic(auto, unfolding(crate::specs::JobForm::member_number_or))]
 pub(crate) fn number_or(
     value: &Value,
     name: &str,
@@ -43,7 +43,7 @@ pub(crate) fn number_or(
 ) -> Option<u32>
     requires low { least ≤ absent }
     requires high { absent ≤ most }
-    ensures value { result ≡ number_or least most absent name.now (view value.now) }
+    ensures value { result ≡ member_number_or least most absent name.now (view value.now) }
     ensures least { IfSome result (λ n. least ≤ n) }
     ensures most { IfSome result (λ n. n ≤ most) }
 {

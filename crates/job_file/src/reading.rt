@@ -4,7 +4,7 @@ ghost use Rattle.std.specs.Prelude.{◌≡◌, ◌≤◌, All, IfOk, length};
 ghost use Rattle.serde_json.specs.View.{items_view};
 ghost use Rattle.job_file.specs.JobFile.{IsWork};
 ghost use Rattle.job_file.specs.Jobs.{jobs_from, jobs_of};
-ghost use Rattle.job_file.specs.Found.{Reads};
+ghost use Rattle.job_file.specs.Found.{MeansThis};
 
 use crate::head::head_of;
 use crate::job::Job;
@@ -34,7 +34,7 @@ use std::alloc::Global;
 /// is read or one that an earlier job is to write. `Memory` where memory runs out.
 #[tactic(auto, unfolding(crate::specs::Jobs::jobs_of))]
 pub fn read_jobs(alloc: Global, bytes: &[u8], own_name: &str) -> Result<Jobs, ReadError>
-    ensures { Reads (λ jobs. jobs) result (jobs_of bytes.now own_name.now) }
+    ensures { MeansThis (λ jobs. jobs) result (jobs_of bytes.now own_name.now) }
 {
     let file = value_of(alloc, bytes)?;
     let Some(head) = head_of(&file) else {
@@ -56,7 +56,7 @@ pub fn read_jobs(alloc: Global, bytes: &[u8], own_name: &str) -> Result<Jobs, Re
 /// the two forms.
 fn jobs_in(alloc: Global, values: &[Value]) -> Result<Vec<Job>, ReadError>
     requires { length values.now ≤ 1000 }
-    ensures value { Reads (λ jobs. jobs.items) result (jobs_from 1 (items_view values.now)) }
+    ensures value { MeansThis (λ jobs. jobs.items) result (jobs_from 1 (items_view values.now)) }
     ensures count { IfOk result (λ jobs. length jobs.items ≡ length values.now) }
     ensures fit { IfOk result (λ jobs. All (λ job. IsWork job.work) jobs.items) }
 {

@@ -23,8 +23,8 @@ provided true = Some tt
 provided false = None
 
 -- the value that the bytes are the text of, where they are one in UTF-8
-unfoldable pub value_of : List ℕ → Option Data
-value_of bytes = if is_utf8 bytes then read bytes else None
+unfoldable pub json_value : List ℕ → Option Data
+json_value bytes = if is_utf8 bytes then read bytes else None
 
 abbrev pub count_of : Option Members → ℕ
 count_of (Some members) = members_len members
@@ -48,5 +48,5 @@ unfoldable pub text_at : List ℕ → Data → Option (List ℕ)
 text_at name d = get name d >>= as_str
 
 -- the number that a member is, where it is one of 64 bits without a point or an exponent
-abbrev pub number_at : List ℕ → Data → Option ℕ
-number_at name d = get name d >>= as_number >>= as_u64
+abbrev pub member_number : List ℕ → Data → Option ℕ
+member_number name d = get name d >>= as_number >>= as_u64

@@ -3,7 +3,7 @@
 
 ghost use Rattle.std.specs.Prelude.{◌≡◌, ◌≤◌, option_map};
 ghost use Rattle.serde_json.specs.View.{view};
-ghost use Rattle.json_values.specs.Values.{value_of, member_count, present, text_at};
+ghost use Rattle.json_values.specs.Values.{json_value, member_count, present, text_at};
 ghost use Rattle.json_values.specs.Errors.{ReadsValue};
 
 use crate::errors::ReadError;
@@ -14,7 +14,7 @@ use std::alloc::Global;
 /// The value of a JSON text. K1 `NotJson` exactly where the bytes aren't one in UTF-8; `Memory`
 /// where memory runs out.
 pub fn value_of(alloc: Global, bytes: &[u8]) -> Result<Value, ReadError>
-    ensures { ReadsValue result (value_of bytes.now) }
+    ensures { ReadsValue result (json_value bytes.now) }
 {
     match Value::from_slice(alloc, bytes) {
         Ok(value) => Ok(value),

@@ -11,16 +11,16 @@ use Rattle.keyring_trait.specs.Keyring.{Opens, UnwrapCause, WrapCause, WrappedVa
 use Rattle.keyring_trait.specs.Wrapping.{WrapKeyValue, unwrapped}
 use Rattle.raw_aes_keyring.specs.Keyring.{raw_meaning}
 use Rattle.keydir_keyring.specs.Answers.{FindsAsRaw, HadKey, KeydirAnswers, WrapsAsRaw}
-use Rattle.keydir_keyring.specs.Keydir.{KeydirValue, wrap_key}
+use Rattle.keydir_keyring.specs.Keydir.{KeydirValue, keydir_key}
 
 -- its key isn't retired, so it refuses nothing
-refuses_none : {S : Type 0} (k : KeydirValue S) (key : List ℕ) (has : Bool) (r : RingRefusal) → refusal_with has (raw_meaning (wrap_key k key)) ≡ Some r → ⊥
+refuses_none : {S : Type 0} (k : KeydirValue S) (key : List ℕ) (has : Bool) (r : RingRefusal) → refusal_with has (raw_meaning (keydir_key k key)) ≡ Some r → ⊥
 refuses_none k key true r is = absurd (cc)
 refuses_none k key false r is = absurd (cc)
 
 -- what it wraps
 pub wraps_raw : {S : Type 0} (state : S → ShelfState) (old new : KeydirValue S) (c : List KeyValue) (random : List ℕ) (handed : Option (List ℕ)) (has : Bool) (key : List ℕ) (w : WrapKeyValue)
-    (result : Result WrappedValue RingError) → HadKey state old new key → w ≡ wrap_key old key → IfOk result (Wraps (raw_meaning w) c random handed)
+    (result : Result WrappedValue RingError) → HadKey state old new key → w ≡ keydir_key old key → IfOk result (Wraps (raw_meaning w) c random handed)
     → IfErr result (WrapCause (refusal_with has (raw_meaning w)) 0 0) → KeydirAnswers state old new (WrapsAsRaw old c random handed) result
 wraps_raw state old new c random handed has key w (Ok wrapped) had is wraps cause =
     (key, had, subst (λ (v : WrapKeyValue). Wraps (raw_meaning v) c random handed wrapped) is wraps)
@@ -31,7 +31,7 @@ wraps_raw state old new c random handed has key w (Err Memory) had is wraps caus
 
 -- and what it finds; it never fails, so that is what its key unwraps
 pub finds_raw : {S : Type 0} (state : S → ShelfState) (old new : KeydirValue S) (c : List KeyValue) (entries : List Entry) (key : List ℕ) (w later : WrapKeyValue)
-    (result : Result (Option (List ℕ)) RingError) → HadKey state old new key → w ≡ wrap_key old key → IfOk result (Opens (raw_meaning w) (raw_meaning later) c entries)
+    (result : Result (Option (List ℕ)) RingError) → HadKey state old new key → w ≡ keydir_key old key → IfOk result (Opens (raw_meaning w) (raw_meaning later) c entries)
     → IfErr result (UnwrapCause 0 0) → KeydirAnswers state old new (FindsAsRaw old c entries) result
 finds_raw state old new c entries key w later (Ok found) had is opens cause =
     (key, had, subst (λ (v : WrapKeyValue). found ≡ unwrapped (v ∷ []) entries c) is (opens.first (omega arith)))

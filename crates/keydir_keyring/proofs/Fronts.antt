@@ -5,7 +5,7 @@ use Rattle.std.proofs.Math.Seq.{take-add, take-append-add}
 use Rattle.std.specs.Prelude.{IfOk, Result, Ok, Err}
 use Rattle.std.specs.Io.{ReadsAtMost}
 use Rattle.esdk_base.specs.Shelf.{Files, Holds, ReadsFrom}
-use Rattle.keydir_keyring.specs.Reading.{IsFilled, IsFront}
+use Rattle.keydir_keyring.specs.Reading.{IsFilled, IsKeyFront}
 
 -- the first of some bytes, and the first of what stands behind them
 front_more : (before out bytes : List ℕ) (count more : ℕ) → count ≤ length before → more ≤ length out → take count before ≡ take count bytes
@@ -40,7 +40,7 @@ filled_by told file before out rest count (Err e) fits part = tt
 
 -- the end of the file was seen
 pub front_ended : (told : Option Files) (file room : List ℕ) (n : ℕ) → IsFilled told file room n → ((bytes : List ℕ) → Holds told file bytes → drop n bytes ≡ [])
-    → IsFront told file room n
+    → IsKeyFront told file room n
 front_ended told file room n filled ended = record {
   filled = filled;
   whole = λ _ bytes holds.
@@ -52,7 +52,7 @@ front_ended told file room n filled ended = record {
 -- a read that gave nothing has seen the end
 pub front_seen : (first now : Option Files) (file before after : List ℕ) (count more : ℕ) → now ≡ first → IsFilled first file before count
     → (IsFilled now file before count → IsFilled now file after (count + more)) → ((bytes : List ℕ) → Holds now file bytes → more ≡ 0 → drop count bytes ≡ []) → more ≡ 0
-    → IsFront first file after count
+    → IsKeyFront first file after count
 front_seen first now file before after count more same filled step ended none =
     let grows : IsFilled first file before count → IsFilled first file after (count + more) =
     subst (λ (f : Option Files). IsFilled f file before count → IsFilled f file after (count + more)) same step in

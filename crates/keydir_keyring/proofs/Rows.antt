@@ -6,9 +6,9 @@ use Rattle.std.specs.Prelude.{OnErr, Result, Ok, Err}
 use Rattle.std.specs.Io.{ReadsAtMost}
 use Rattle.esdk_base.specs.Told.{TellsRead}
 use Rattle.esdk_seen.specs.Calls.{ShelfCall, reads}
-use Rattle.whole_input.specs.FileReads.{ReadsRow, ReadsWhole}
+use Rattle.whole_input.specs.FileReads.{ReadsRow, ReadsWholeFile}
 use Rattle.whole_input.specs.FileReadsLaws.{row_ends, row_more, row_one}
-use Rattle.keydir_keyring.specs.Reading.{ReadsFewer, ReadsFront, ReadsMore, ReadsOnce}
+use Rattle.keydir_keyring.specs.Reading.{ReadsFewer, ReadsKeyFront, ReadsMore, ReadsOnce}
 
 -- what one read put behind the first bytes of the room
 room_more : (before out rest : List ℕ) (at more : ℕ) → at ≤ length before → more ≤ length out → take (at + more) (take at before ++ (out ++ rest)) ≡ take at before ++ take more out
@@ -39,7 +39,7 @@ row_by first old new file before after at more inside row once =
 
 -- a read that gave nothing ends it
 pub front_ends : (first old new : List ShelfCall) (file before after : List ℕ) (at more : ℕ) → at ≤ length before → ReadsRow file 0 first old (take at before)
-    → ReadsOnce old new file before after at more → more ≡ 0 → ReadsFront first new file after at
+    → ReadsOnce old new file before after at more → more ≡ 0 → ReadsKeyFront first new file after at
 front_ends first old new file before after at more inside row once none =
     let long : length (take at before) ≡ at = length-take-le at before inside in
     let here : at + more ≡ at = omega (arith, none) in
@@ -50,11 +50,11 @@ front_ends first old new file before after at more inside row once none =
     sym (append-nil (take at before)) ∙ ap (λ (b : List ℕ). take at before ++ b) (sym empty) ∙ sym once.room ∙ ap (λ (n : ℕ). take n after) here in
     record {
       row = subst (λ (n : ℕ). ReadsRow file 0 first new (take n after)) here (row_by first old new file before after at more inside row once);
-      whole = λ _. subst (λ (b : List ℕ). ReadsWhole file first new b) same (row_ends file first old new (take at before) row last);
+      whole = λ _. subst (λ (b : List ℕ). ReadsWholeFile file first new b) same (row_ends file first old new (take at before) row last);
     }
 
 -- no room is left
-pub front_full : (first now : List ShelfCall) (file room : List ℕ) (n : ℕ) → length room ≤ n → ReadsRow file 0 first now (take n room) → ReadsFront first now file room n
+pub front_full : (first now : List ShelfCall) (file room : List ℕ) (n : ℕ) → length room ≤ n → ReadsRow file 0 first now (take n room) → ReadsKeyFront first now file room n
 front_full first now file room n full row = record { row = row; whole = λ less. absurd (omega (arith, less, full)) }
 
 -- a read that failed leaves the row as it was

@@ -27,14 +27,14 @@ MakesKeydir k (Err ReservedNamespace) = k.namespace ≡ reserved_namespace
 MakesKeydir k (Err Memory) = k.namespace ≢ reserved_namespace
 
 -- the wrapping key of these bytes, which isn't retired
-abbrev pub wrap_key : {S : Type 0} → KeydirValue S → List ℕ → WrapKeyValue
-wrap_key k bytes = record { namespace = k.namespace; name = k.name; key = bytes; retired = false }
+abbrev pub keydir_key : {S : Type 0} → KeydirValue S → List ℕ → WrapKeyValue
+keydir_key k bytes = record { namespace = k.namespace; name = k.name; key = bytes; retired = false }
 
 -- It tells its one wrapping key where its shelf tells a file of 32 bytes; it makes one entry,
 -- refuses nothing, and counts its own failures.
 abbrev pub keydir_meaning : {S : Type 0} → (S → ShelfState) → KeydirValue S → KeyringMeaning
 keydir_meaning state k = record {
-  keys = option_map (λ bytes. wrap_key k bytes ∷ []) (told_key (state k.shelf).files k.file);
+  keys = option_map (λ bytes. keydir_key k bytes ∷ []) (told_key (state k.shelf).files k.file);
   wraps = 1;
   refuses_key = None;
   refuses_none = None;

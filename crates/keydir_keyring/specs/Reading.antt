@@ -1,19 +1,20 @@
 -- What is read of a file that holds a key.
-use Rattle.std.specs.Prelude.{◌≡◌, ◌≢◌, ◌⊎◌, ℕ, ◌+◌, ◌<◌, ◌≤◌, ◌==◌, List, [], ◌∷◌, ◌++◌, length, take, Option, Some, None, IfSome, Result, MatchResult, if◌then◌else◌}
+use Rattle.std.specs.Prelude.{◌≡◌, ◌≢◌, ◌⊎◌, ℕ, ◌+◌, ◌<◌, ◌≤◌, ◌==◌, List, [], ◌∷◌, ◌++◌, length}
+use Rattle.std.specs.Prelude.{take, Option, Some, None, IfSome, Result, MatchResult, if◌then◌else◌}
 use Rattle.std.specs.Option.{option_and_then}
 use Rattle.esdk_fields.specs.Counts.{RoseBy}
 use Rattle.esdk_seen.specs.Calls.{ShelfCall, reads}
 use Rattle.esdk_base.specs.Shelf.{Files, file_of, Holds}
 use Rattle.esdk_base.specs.Streams.{FailsToRead, ShelfState}
-use Rattle.whole_input.specs.FileReads.{ReadsRow, ReadsWhole}
+use Rattle.whole_input.specs.FileReads.{ReadsRow, ReadsWholeFile}
 
 -- the bytes, where there are just 32
-abbrev pub key_in : List ℕ → Option (List ℕ)
-key_in bytes = if length bytes == 32 then Some bytes else None
+abbrev pub key_of_file : List ℕ → Option (List ℕ)
+key_of_file bytes = if length bytes == 32 then Some bytes else None
 
 -- the key that the file holds, where the files are told and this one is there and has 32 bytes
 abbrev pub told_key : Option Files → List ℕ → Option (List ℕ)
-told_key told file = option_and_then key_in (file_of told file)
+told_key told file = option_and_then key_of_file (file_of told file)
 
 -- The first n bytes of the room are the first n of the file, where that is told.
 pub record IsFilled (told : Option Files) (file room : List ℕ) (n : ℕ) : Type 0 where
@@ -21,7 +22,7 @@ pub record IsFilled (told : Option Files) (file room : List ℕ) (n : ℕ) : Typ
   pub front : (bytes : List ℕ) → Holds told file bytes → take n room ≡ take n bytes
 
 -- The same, and where room is left behind them, the file has no more.
-pub record IsFront (told : Option Files) (file room : List ℕ) (n : ℕ) : Type 0 where
+pub record IsKeyFront (told : Option Files) (file room : List ℕ) (n : ℕ) : Type 0 where
   pub filled : IsFilled told file room n
   pub whole : n < length room → (bytes : List ℕ) → Holds told file bytes → length bytes ≡ n
 
@@ -50,9 +51,9 @@ ReadsMore old new file before after at result =
 
 -- The calls read the file in a row from its front, and gave the first n bytes of the room; where
 -- room is left behind them, the last read gave nothing.
-pub record ReadsFront (old new : List ShelfCall) (file room : List ℕ) (n : ℕ) : Type 0 where
+pub record ReadsKeyFront (old new : List ShelfCall) (file room : List ℕ) (n : ℕ) : Type 0 where
   pub row : ReadsRow file 0 old new (take n room)
-  pub whole : n < length room → ReadsWhole file old new (take n room)
+  pub whole : n < length room → ReadsWholeFile file old new (take n room)
 
 -- The calls read the file in a row from its front, and gave fewer bytes than that.
 pub record ReadsFewer (old new : List ShelfCall) (file : List ℕ) (limit : ℕ) : Type 0 where
@@ -65,7 +66,7 @@ pub record ReadsFewer (old new : List ShelfCall) (file : List ℕ) (limit : ℕ)
 -- The calls read the file from its front to its end, and gave just these 32 bytes; they are the key
 -- that it holds, where the files are told. No read failed.
 pub record IsKey (old new : ShelfState) (file key : List ℕ) : Type 0 where
-  pub read : ReadsWhole file old.calls new.calls key
+  pub read : ReadsWholeFile file old.calls new.calls key
   pub long : length key ≡ 32
   pub gave : Gave old new 32
   pub told : IfSome old.files (λ _. told_key old.files file ≡ Some key)
@@ -76,18 +77,18 @@ pub record IsNoKey (old new : ShelfState) (file : List ℕ) : Type 0 where
   pub bytes : List ℕ
   pub read : ReadsRow file 0 old.calls new.calls bytes
   pub other : length bytes ≢ 32
-  pub ended : length bytes < 32 → ReadsWhole file old.calls new.calls bytes
+  pub ended : length bytes < 32 → ReadsWholeFile file old.calls new.calls bytes
   pub gave : Gave old new (length bytes)
   pub none : told_key old.files file ≡ None
 
 -- A read failed, behind reads of the file in a row from its front, which gave at most 32 bytes.
-pub record IsUnread (old new : ShelfState) (file : List ℕ) : Type 0 where
+pub record KeyIsUnread (old new : ShelfState) (file : List ℕ) : Type 0 where
   pub cause : FailsToRead old new file
   pub read : ReadsFewer old.calls new.calls file 33
 
 -- why there is no key: a read failed, or the file has more or fewer than 32 bytes
 abbrev pub HasNoKey : ShelfState → ShelfState → List ℕ → Type 0
-HasNoKey old new file = IsUnread old new file ⊎ IsNoKey old new file
+HasNoKey old new file = KeyIsUnread old new file ⊎ IsNoKey old new file
 
 -- what reading the key comes to
 abbrev pub ReadsKey : ShelfState → ShelfState → List ℕ → Option (List ℕ) → Type 0

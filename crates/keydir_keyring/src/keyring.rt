@@ -1,10 +1,13 @@
 //! The key of a file as a keyring. AWS Encryption SDK Specification, "Keyring Interface" and "Raw
 //! AES Keyring".
 
-ghost use Rattle.std.specs.Prelude.{◌≡◌, ◌∷◌, [], false, None, length, is_some, IfOk, IfErr, IfSome, OnOk};
+ghost use Rattle.std.specs.Prelude.{◌≡◌, ◌∷◌, [], false, None, length, is_some, IfOk, IfErr};
+ghost use Rattle.std.specs.Prelude.{IfSome, OnOk};
 ghost use Rattle.std.specs.Option.{option_copied};
-ghost use Rattle.keyring_trait.specs.Keyring.{KeyringGoes, Opens, UnwrapCause, WrapCause, Wraps, refusal_with, wanted};
-ghost use Rattle.keydir_keyring.specs.Answers.{FindsAsRaw, IsRawOf, KeydirAnswers, Keeps, WrapsAsRaw};
+ghost use Rattle.keyring_trait.specs.Keyring.{KeyringGoes, Opens, UnwrapCause, WrapCause, Wraps};
+ghost use Rattle.keyring_trait.specs.Keyring.{refusal_with, wanted};
+ghost use Rattle.keydir_keyring.specs.Answers.{FindsAsRaw, IsRawOf, KeydirAnswers, KeydirKeeps};
+ghost use Rattle.keydir_keyring.specs.Answers.{WrapsAsRaw};
 ghost use Rattle.keydir_keyring.specs.Keydir.{keydir_meaning};
 
 use crate::keydir::KeydirKeyring;
@@ -53,7 +56,7 @@ impl<S: Shelf + Drop> Keyring for KeydirKeyring<S> {
             (keydir_meaning S.state self.old) ≡ None) }
         ensures cause { IfErr result (WrapCause (refusal_with (is_some key.entry)
             (keydir_meaning S.state self.old)) self.old.faults self.new.faults) }
-        ensures keeps { Keeps S.state self.old self.new }
+        ensures keeps { KeydirKeeps S.state self.old self.new }
         ensures answers { KeydirAnswers S.state self.old self.new
             (WrapsAsRaw self.old context.now random.now (option_copied key.entry)) result }
     {
@@ -72,7 +75,7 @@ impl<S: Shelf + Drop> Keyring for KeydirKeyring<S> {
         ensures opens { IfOk result (Opens (keydir_meaning S.state self.old)
             (keydir_meaning S.state self.new) context.now entries.now) }
         ensures cause { IfErr result (UnwrapCause self.old.faults self.new.faults) }
-        ensures keeps { Keeps S.state self.old self.new }
+        ensures keeps { KeydirKeeps S.state self.old self.new }
         ensures answers { KeydirAnswers S.state self.old self.new
             (FindsAsRaw self.old context.now entries.now) result }
     {
@@ -87,7 +90,7 @@ impl<S: Shelf> KeydirKeyring<S> {
         ensures key { IfOk result (λ keyring. IfSome (keydir_meaning S.state self.old).keys
             (λ keys. keys ≡ keyring ∷ [])) }
         ensures active { IfOk result (λ keyring. keyring.retired ≡ false) }
-        ensures keeps { Keeps S.state self.old self.new }
+        ensures keeps { KeydirKeeps S.state self.old self.new }
         ensures answers { KeydirAnswers S.state self.old self.new (IsRawOf self.old) result }
     {
         let Some(key) = read_key(&mut self.shelf, self.file.as_str()) else {

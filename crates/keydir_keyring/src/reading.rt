@@ -1,9 +1,11 @@
 //! Reading a key from a file.
 
-ghost use Rattle.std.specs.Prelude.{◌≡◌, ◌<◌, ◌≤◌, ◌+◌, List, ℕ, [], length, take, drop, IfOk, OnErr};
+ghost use Rattle.std.specs.Prelude.{◌≡◌, ◌<◌, ◌≤◌, ◌+◌, List, ℕ, [], length, take, drop, IfOk};
+ghost use Rattle.std.specs.Prelude.{OnErr};
 ghost use Rattle.esdk_fields.specs.Counts.{CountsGiven};
 ghost use Rattle.esdk_base.specs.Shelf.{HasCauseOrMissing, Holds, is_missing};
-ghost use Rattle.keydir_keyring.specs.Reading.{Gave, IsFilled, IsFront, ReadsFewer, ReadsFront, ReadsKey, ReadsMore};
+ghost use Rattle.keydir_keyring.specs.Reading.{Gave, IsFilled, IsKeyFront, ReadsFewer};
+ghost use Rattle.keydir_keyring.specs.Reading.{ReadsKeyFront, ReadsKey, ReadsMore};
 
 use esdk_base::{Failed, Shelf};
 use esdk_fields::array_of;
@@ -42,8 +44,8 @@ fn key_of(bytes: &[u8]) -> [u8; 32]
 /// that is.
 fn read_front<S: Shelf>(shelf: &mut S, file: &str, room: &mut [u8]) -> Result<usize, Failed>
     requires { 0 < length room.old }
-    ensures front { IfOk result (IsFront (S.state shelf.old).files file.now room.new) }
-    ensures read { IfOk result (ReadsFront (S.state shelf.old).calls (S.state shelf.new).calls
+    ensures front { IfOk result (IsKeyFront (S.state shelf.old).files file.now room.new) }
+    ensures read { IfOk result (ReadsKeyFront (S.state shelf.old).calls (S.state shelf.new).calls
         file.now room.new) }
     ensures unread { OnErr result (ReadsFewer (S.state shelf.old).calls (S.state shelf.new).calls
         file.now (length room.old)) }

@@ -11,8 +11,8 @@ use Rattle.keyring_file.specs.Form.{Form, RawForm, PlugForm, MultiForm, form_of,
 use Rattle.keyring_file.specs.Walk.{Met, Walk, is_another_key}
 use Rattle.keyring_file.specs.declared.form.Version.{Version}
 use Rattle.keyring_file.specs.Leaves.{wrap_key, raw_key, raw_leaf, plug_leaf}
-use Rattle.keyring_file.specs.Tree.{beside, row, optional, multi, formed, tree}
-use Rattle.keyring_file.specs.Room.{HasRoom}
+use Rattle.keyring_file.specs.Tree.{rows_beside, row, optional, multi, formed, tree}
+use Rattle.keyring_file.specs.Room.{LevelsHaveRoom}
 use Rattle.keyring_file.specs.Counts.{leaves_of, count_of_trees, AreOfOneKey}
 use Rattle.keyring_file.specs.Retired.{nodes_in}
 use Rattle.keyring_file.specs.declared.plugs.Plug.{Plug}
@@ -28,7 +28,7 @@ pub record IsSettled {P : Type 0} (met : Met P) : Type 0 where
   pub keys : length met.keys ≤ met.leaves
   pub nodes : met.nodes + 8 * length met.plugs ≤ 8 * length met.keys + 2 ^ 27
 
-pub settled_room : {P : Type 0} (levels : ℕ) (met : Met P) → levels ≤ 8 → IsSettled met → HasRoom levels met
+pub settled_room : {P : Type 0} (levels : ℕ) (met : Met P) → levels ≤ 8 → IsSettled met → LevelsHaveRoom levels met
 settled_room levels met few s = record { few = few; leaves = s.leaves; keys = s.keys; nodes = omega (arith, s.nodes, few) }
 
 -- What reading these trees keeps, where each may have so many levels.
@@ -40,15 +40,15 @@ pub record AreRead {P : Type 0} (wraps : P → ℕ) (levels : ℕ) (trees : Fore
   pub count : old.nodes + count_of_trees trees ≤ new.nodes
   pub same : count_of_trees trees ≡ 0 → new ≡ old
   pub agree : AreOfOneKey old.keys → AreOfOneKey new.keys
-  pub settled : 1 ≤ count_of_trees trees → HasRoom levels old → IsSettled new
+  pub settled : 1 ≤ count_of_trees trees → LevelsHaveRoom levels old → IsSettled new
 
-room_by : {P : Type 0} (wraps : P → ℕ) (levels : ℕ) (trees : Forest P) (old new : Met P) → AreRead wraps levels trees old new → HasRoom levels old
-    → (n : ℕ) → n ≡ count_of_trees trees → HasRoom levels new
-room_by wraps levels trees old new r h zero none = subst (HasRoom levels) (sym (r.same (sym none))) h
+room_by : {P : Type 0} (wraps : P → ℕ) (levels : ℕ) (trees : Forest P) (old new : Met P) → AreRead wraps levels trees old new → LevelsHaveRoom levels old
+    → (n : ℕ) → n ≡ count_of_trees trees → LevelsHaveRoom levels new
+room_by wraps levels trees old new r h zero none = subst (LevelsHaveRoom levels) (sym (r.same (sym none))) h
 room_by wraps levels trees old new r h (suc n) more = settled_room levels new h.few (r.settled (omega (arith, more)) h)
 
 -- there is room for further nodes on this level
-pub room_after : {P : Type 0} (wraps : P → ℕ) (levels : ℕ) (trees : Forest P) (old new : Met P) → AreRead wraps levels trees old new → HasRoom levels old → HasRoom levels new
+pub room_after : {P : Type 0} (wraps : P → ℕ) (levels : ℕ) (trees : Forest P) (old new : Met P) → AreRead wraps levels trees old new → LevelsHaveRoom levels old → LevelsHaveRoom levels new
 room_after wraps levels trees old new r h = room_by wraps levels trees old new r h (count_of_trees trees) refl
 
 pub none_read : {P : Type 0} (wraps : P → ℕ) (levels : ℕ) (met : Met P) → AreRead wraps levels Nil met met
@@ -64,12 +64,12 @@ none_read wraps levels met = record {
 }
 
 settled_by : {P : Type 0} (wraps : P → ℕ) (levels : ℕ) (a b : Forest P) (old mid new : Met P) → AreRead wraps levels a old mid → AreRead wraps levels b mid new
-    → HasRoom levels old → (n : ℕ) → n ≡ count_of_trees b → 1 ≤ count_of_trees a + n → IsSettled new
+    → LevelsHaveRoom levels old → (n : ℕ) → n ≡ count_of_trees b → 1 ≤ count_of_trees a + n → IsSettled new
 settled_by wraps levels a b old mid new one two h zero none some = subst IsSettled (sym (two.same (sym none))) (one.settled (omega (arith, some)) h)
 settled_by wraps levels a b old mid new one two h (suc n) more some = two.settled (omega (arith, more)) (room_after wraps levels a old mid one h)
 
 pub both_read : {P : Type 0} (wraps : P → ℕ) (levels : ℕ) (a b : Forest P) (old mid new : Met P) → AreRead wraps levels a old mid → AreRead wraps levels b mid new
-    → AreRead wraps levels (beside a b) old new
+    → AreRead wraps levels (rows_beside a b) old new
 both_read wraps levels a b old mid new one two =
     let counted = count_beside a b in
     record {
@@ -86,7 +86,7 @@ both_read wraps levels a b old mid new one two =
 -- ---- leaves
 
 module _ {P : Type 0} (wraps : P → ℕ) (levels : ℕ) (old : Met P) where
-  raw_settled : (w : WrapKeyValue) → old.leaves + 1 ≤ 64 → HasRoom (suc levels) old → IsSettled (with_leaves 1 (with_key w (with_node old)))
+  raw_settled : (w : WrapKeyValue) → old.leaves + 1 ≤ 64 → LevelsHaveRoom (suc levels) old → IsSettled (with_leaves 1 (with_key w (with_node old)))
   raw_settled w most h =
       let longer = length-append old.keys (w ∷ []) in
       record { leaves = most; keys = omega (arith, longer, h.keys); nodes = omega (arith, longer, h.nodes) }
@@ -114,7 +114,7 @@ module _ {P : Type 0} (wraps : P → ℕ) (levels : ℕ) (old : Met P) where
       subst (λ y. AreRead wraps (suc levels) (RawThen y.0 Nil) old y.1) (result_is (w, k.value.1) y k.rest)
       (subst (AreRead wraps (suc levels) (RawThen w Nil) old) r.new (raw_is w r.most r.apart))
 
-  plug_settled : (left : List (Plug P)) (n : ℕ) → length left + 1 ≡ length old.plugs → old.leaves + n ≤ 64 → HasRoom (suc levels) old → IsSettled (with_leaves n (with_plugs left (with_node old)))
+  plug_settled : (left : List (Plug P)) (n : ℕ) → length left + 1 ≡ length old.plugs → old.leaves + n ≤ 64 → LevelsHaveRoom (suc levels) old → IsSettled (with_leaves n (with_plugs left (with_node old)))
   plug_settled left n fewer most h = record { leaves = most; keys = omega (arith, h.keys); nodes = omega (arith, fewer, h.nodes) }
 
   plug_is : (keyring : P) (left : List (Plug P)) → length left + 1 ≡ length old.plugs → old.leaves + wraps keyring ≤ 64
@@ -161,8 +161,8 @@ module _ {P : Type 0} (wraps : P → ℕ) (levels : ℕ) (below : Data → Walk 
       let b = went (row below ds a.value.1) _ y a.rest in
       let one = reads d old a.value a.is in
       let two = row_read ds a.value.1 b.value b.is in
-      let same = result_is (beside a.value.0 b.value.0, b.value.1) y b.rest in
-      let some : 1 ≤ count_of_trees (beside a.value.0 b.value.0) = omega (arith, count_beside a.value.0 b.value.0, one.one) in (
+      let same = result_is (rows_beside a.value.0 b.value.0, b.value.1) y b.rest in
+      let some : 1 ≤ count_of_trees (rows_beside a.value.0 b.value.0) = omega (arith, count_beside a.value.0 b.value.0, one.one) in (
         subst (λ y. AreRead wraps levels y.0 old y.1) same (both_read wraps levels a.value.0 b.value.0 old a.value.1 b.value.1 one.read two.0),
         λ _. subst (λ y. 1 ≤ count_of_trees y.0) same some,
       )
@@ -174,7 +174,7 @@ module _ {P : Type 0} (wraps : P → ℕ) (levels : ℕ) (below : Data → Walk 
       (subst (λ y. AreRead wraps levels y.0 old y.1) (result_is (Nil, old) y e) (none_read wraps levels old), λ some. absurd cc)
 
   some_member : (generator : Option Data) (children : Items) (a b : Forest P) → has_node generator children ≡ true → (is_some generator ≡ true → 1 ≤ count_of_trees a)
-      → (is_empty children ≡ false → 1 ≤ count_of_trees b) → 1 ≤ count_of_trees (beside a b)
+      → (is_empty children ≡ false → 1 ≤ count_of_trees b) → 1 ≤ count_of_trees (rows_beside a b)
   some_member (Some d) children a b has one two = omega (arith, one refl, count_beside a b)
   some_member None (item d ds) a b has one two = omega (arith, two refl, count_beside a b)
   some_member None no_items a b has one two = absurd cc
@@ -187,7 +187,7 @@ module _ {P : Type 0} (wraps : P → ℕ) (levels : ℕ) (below : Data → Walk 
       let b = went (row below children a.value.1) _ y a.rest in
       let one = optional_read generator old a.value a.is in
       let two = row_read children a.value.1 b.value b.is in
-      subst (λ y. AreRead wraps levels y.0.1 old y.1 × (1 ≤ count_of_trees y.0.1)) (result_is ((is_some generator, beside a.value.0 b.value.0), b.value.1) y b.rest)
+      subst (λ y. AreRead wraps levels y.0.1 old y.1 × (1 ≤ count_of_trees y.0.1)) (result_is ((is_some generator, rows_beside a.value.0 b.value.0), b.value.1) y b.rest)
       (both_read wraps levels a.value.0 b.value.0 old a.value.1 b.value.1 one.0 two.0, some_member generator children a.value.0 b.value.0 has one.1 two.1)
 
   -- a multi-keyring, one level above its members

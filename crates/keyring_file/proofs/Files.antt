@@ -11,42 +11,42 @@ use Rattle.multi_keyring.specs.declared.tree.Node.TheVariants.{Raw, Handed, Mult
 use Rattle.multi_keyring.specs.Forest.{Forest, Nil, RawThen, HandedThen, MultiThen, tallest}
 use Rattle.multi_keyring.specs.Nodes.{forest}
 use Rattle.multi_keyring.specs.Tree.{leaves, node_leaves}
-use Rattle.json_values.specs.Values.{value_of}
+use Rattle.json_values.specs.Values.{json_value}
 use Rattle.keyring_file.specs.declared.plugs.Plug.{Plug}
 use Rattle.keyring_file.specs.declared.form.Version.{Version}
 use Rattle.keyring_file.specs.KeyLine.{key_line}
-use Rattle.keyring_file.specs.KeyFile.{is_json, line_tree, only_tree, start, node_tree, json_tree, tree_of}
+use Rattle.keyring_file.specs.KeyFile.{is_json, line_tree, only_tree, nothing_met, node_tree, json_tree, tree_of}
 use Rattle.keyring_file.specs.Form.{ring_of}
 use Rattle.keyring_file.specs.Walk.{Met}
 use Rattle.keyring_file.specs.Tree.{tree}
-use Rattle.keyring_file.specs.Room.{HasRoom}
+use Rattle.keyring_file.specs.Room.{LevelsHaveRoom}
 use Rattle.keyring_file.specs.Counts.{leaves_of, raw_keys, AreOfOneKey}
 use Rattle.keyring_file.specs.Retired.{nodes_in}
 use Rattle.keyring_file.proofs.Agreeing.{agree_more}
 use Rattle.keyring_file.proofs.Beside.{unretired, kept_are}
 use Rattle.keyring_file.proofs.Facts.{IsRead, tree_read}
 
-pub start_room : {P : Type 0} (plugs : List (Plug P)) → length plugs < 2 ^ 24 → HasRoom 8 (start plugs)
+pub start_room : {P : Type 0} (plugs : List (Plug P)) → length plugs < 2 ^ 24 → LevelsHaveRoom 8 (nothing_met plugs)
 start_room plugs few = record { few = omega arith; leaves = omega arith; keys = omega arith; nodes = omega (arith, few) }
 
 -- the raw key of a line, or what a walk read
 data IsOf {P : Type 0} (wraps : P → ℕ) (plugs : List (Plug P)) (trees : Forest P) : Type 0 where
   of_line : (w : WrapKeyValue) → RawThen w Nil ≡ trees → IsOf wraps plugs trees
-  of_node : (new : Met P) → IsRead wraps 8 trees (start plugs) new → IsOf wraps plugs trees
+  of_node : (new : Met P) → IsRead wraps 8 trees (nothing_met plugs) new → IsOf wraps plugs trees
 
 of_key : {P : Type 0} (wraps : P → ℕ) (plugs : List (Plug P)) (trees : Forest P) (key : Result WrapKeyValue FileRefusal) → line_tree key ≡ Ok trees → IsOf wraps plugs trees
 of_key wraps plugs trees (Ok w) e = of_line w cc
 of_key wraps plugs trees (Err refusal) e = absurd cc
 
 of_walk : {P : Type 0} (wraps : P → ℕ) (plugs : List (Plug P)) (trees : Forest P) (version : Version) (node : Data) (r : Result (Forest P × Met P) FileRefusal)
-    → tree wraps version 8 node (start plugs) ≡ r → only_tree r ≡ Ok trees → IsOf wraps plugs trees
+    → tree wraps version 8 node (nothing_met plugs) ≡ r → only_tree r ≡ Ok trees → IsOf wraps plugs trees
 of_walk wraps plugs trees version node (Ok y) is e =
     let same : y.0 ≡ trees = cc in
-    of_node y.1 (subst (λ t. IsRead wraps 8 t (start plugs) y.1) same (tree_read wraps version 8 node (start plugs) y is))
+    of_node y.1 (subst (λ t. IsRead wraps 8 t (nothing_met plugs) y.1) same (tree_read wraps version 8 node (nothing_met plugs) y is))
 of_walk wraps plugs trees version node (Err refusal) is e = absurd cc
 
 of_ring : {P : Type 0} (wraps : P → ℕ) (plugs : List (Plug P)) (trees : Forest P) (ring : Option (Version × Data)) → node_tree wraps plugs ring ≡ Ok trees → IsOf wraps plugs trees
-of_ring wraps plugs trees (Some (version, node)) e = of_walk wraps plugs trees version node (tree wraps version 8 node (start plugs)) refl e
+of_ring wraps plugs trees (Some (version, node)) e = of_walk wraps plugs trees version node (tree wraps version 8 node (nothing_met plugs)) refl e
 of_ring wraps plugs trees None e = absurd cc
 
 of_json : {P : Type 0} (wraps : P → ℕ) (plugs : List (Plug P)) (trees : Forest P) (file : Option Data) → json_tree wraps plugs file ≡ Ok trees → IsOf wraps plugs trees
@@ -54,8 +54,8 @@ of_json wraps plugs trees (Some file) e = of_ring wraps plugs trees (ring_of fil
 of_json wraps plugs trees None e = absurd cc
 
 of_either : {P : Type 0} (wraps : P → ℕ) (bytes : List ℕ) (plugs : List (Plug P)) (trees : Forest P) (json : Bool)
-    → (if json then json_tree wraps plugs (value_of bytes) else line_tree (key_line bytes)) ≡ Ok trees → IsOf wraps plugs trees
-of_either wraps bytes plugs trees true e = of_json wraps plugs trees (value_of bytes) e
+    → (if json then json_tree wraps plugs (json_value bytes) else line_tree (key_line bytes)) ≡ Ok trees → IsOf wraps plugs trees
+of_either wraps bytes plugs trees true e = of_json wraps plugs trees (json_value bytes) e
 of_either wraps bytes plugs trees false e = of_key wraps plugs trees (key_line bytes) e
 
 of_file : {P : Type 0} (wraps : P → ℕ) (bytes : List ℕ) (plugs : List (Plug P)) (trees : Forest P) → tree_of wraps bytes plugs ≡ Ok trees → IsOf wraps plugs trees

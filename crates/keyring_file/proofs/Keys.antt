@@ -9,7 +9,7 @@ use Rattle.esdk_fields.specs.declared.refusals.FileRefusal.{FileRefusal}
 use Rattle.esdk_fields.specs.declared.refusals.FileRefusal.TheVariants.{BadShape, ReservedNamespace}
 use Rattle.keyring_trait.specs.Wrapping.{WrapKeyValue}
 use Rattle.raw_aes_keyring.specs.RawKey.{reserved_namespace}
-use Rattle.keyring_file.specs.KeyLine.{is_word, key_in, key_of_parts, key_with}
+use Rattle.keyring_file.specs.KeyLine.{is_word, key_in_parts, key_of_parts, key_with}
 
 -- ---- words
 
@@ -33,7 +33,7 @@ word_is word some short = rw (ne_eqb (length word) 0 (λ e. omega arith), le-leb
 
 -- ---- parts
 
-pub other_parts : (parts : List (List ℕ)) → length parts ≢ 3 → key_in parts ≡ Err (BadShape 1)
+pub other_parts : (parts : List (List ℕ)) → length parts ≢ 3 → key_in_parts parts ≡ Err (BadShape 1)
 other_parts [] other = refl
 other_parts (a ∷ []) other = refl
 other_parts (a ∷ b ∷ []) other = refl
@@ -81,13 +81,13 @@ three_read a b digits w e =
     let words = and_both (is_word a) (is_word b) p.words_are in
     decoded a b digits (decode_sized digits 32) w refl words.0 words.1 p.reserved_is p.rest
 
-pub parts_read : (parts : List (List ℕ)) (w : WrapKeyValue) → key_in parts ≡ Ok w → AreParts parts w
+pub parts_read : (parts : List (List ℕ)) (w : WrapKeyValue) → key_in_parts parts ≡ Ok w → AreParts parts w
 parts_read [] w e = absurd cc
 parts_read (a ∷ []) w e = absurd cc
 parts_read (a ∷ b ∷ []) w e = absurd cc
 parts_read (a ∷ b ∷ digits ∷ []) w e = three_read a b digits w e
 parts_read (a ∷ b ∷ c ∷ d ∷ parts) w e = absurd cc
 
-pub parts_are_read : (parts : List (List ℕ)) (w : WrapKeyValue) → AreParts parts w → key_in parts ≡ Ok w
+pub parts_are_read : (parts : List (List ℕ)) (w : WrapKeyValue) → AreParts parts w → key_in_parts parts ≡ Ok w
 unfolding key_of_parts
 parts_are_read parts w p = rw (p.are, p.namespace, p.name, p.unreserved, p.spelled) (ap (λ retired. Ok (record w { retired = retired })) (sym p.active))

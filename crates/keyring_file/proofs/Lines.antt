@@ -17,7 +17,7 @@ use Rattle.esdk_fields.specs.declared.refusals.FileRefusal.{FileRefusal}
 use Rattle.esdk_fields.specs.declared.refusals.FileRefusal.TheVariants.{BadShape}
 use Rattle.keyring_trait.specs.Wrapping.{WrapKeyValue}
 use Rattle.raw_aes_keyring.specs.RawKey.{reserved_namespace}
-use Rattle.keyring_file.specs.KeyLine.{key_in, key_line, key_of_parts, parts_in, space_parts}
+use Rattle.keyring_file.specs.KeyLine.{key_in_parts, key_line, key_of_parts, parts_in, space_parts}
 use Rattle.keyring_file.specs.declared.key_line.KeyLine.{KeyLine}
 use Rattle.keyring_file.specs.Found.{FindsKey, key_value}
 use Rattle.keyring_file.specs.Spelling.{IsKeyLine, IsLineEnd, IsLineKey}
@@ -60,7 +60,7 @@ joined line a b c is = sym (join_with_byte-slice_split 32 line) ∙ ap (join_wit
 pub line_is_spelled : (bytes : List ℕ) (w : WrapKeyValue) → key_line bytes ≡ Ok w → IsKeyLine bytes w
 unfolding key_line
 line_is_spelled bytes w e =
-    let t = when_true (is_utf8 bytes) (key_in (parts_in bytes)) w e in
+    let t = when_true (is_utf8 bytes) (key_in_parts (parts_in bytes)) w e in
     let p = parts_read (parts_in bytes) w t.1 in
     let d = ended bytes in
     record {
@@ -112,7 +112,7 @@ spelled_is_read bytes w s =
     let line : strip_last 10 bytes ≡ unended w s.digits = line_of bytes (w.namespace ++ 32 ∷ w.name) s.digits s.end are s.ends s.line in
     let split : parts_in bytes ≡ w.namespace ∷ w.name ∷ s.digits ∷ [] =
     ap space_parts (line ∙ append_assoc w.namespace (32 ∷ w.name) (32 ∷ s.digits)) ∙ three_parts w.namespace w.name s.digits s.key.namespace.unspaced s.key.name.unspaced (digits_unspaced s.digits are) in
-    let read : key_in (parts_in bytes) ≡ Ok w = parts_are_read (parts_in bytes) w (record {
+    let read : key_in_parts (parts_in bytes) ≡ Ok w = parts_are_read (parts_in bytes) w (record {
       digits = s.digits;
       are = split;
       namespace = word_is w.namespace s.key.namespace.some s.key.namespace.short;

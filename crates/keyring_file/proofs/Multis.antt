@@ -14,8 +14,8 @@ use Rattle.multi_keyring.specs.Making.{multi_fault, MakesMulti}
 use Rattle.keyring_file.specs.declared.form.Version.{Version}
 use Rattle.keyring_file.specs.Form.{has_node}
 use Rattle.keyring_file.specs.Walk.{Met}
-use Rattle.keyring_file.specs.Tree.{beside, row, optional, multi, tree}
-use Rattle.keyring_file.specs.Room.{HasRoom}
+use Rattle.keyring_file.specs.Tree.{rows_beside, row, optional, multi, tree}
+use Rattle.keyring_file.specs.Room.{LevelsHaveRoom}
 use Rattle.keyring_file.specs.Counts.{leaves_of, count_of_trees}
 use Rattle.keyring_file.specs.Found.{wraps_of}
 use Rattle.keyring_file.proofs.Beside.{forest_beside, count_forest}
@@ -60,33 +60,33 @@ never_refused None value refusal none made = absurd cc
 never_refused (Some fault) value refusal none made = absurd cc
 
 generator_beside : {P : Type 0} (generator : Option (Node P)) (children : List (Node P))
-    → forest (generator_first generator children) ≡ beside (forest (option_to_list generator)) (forest children)
+    → forest (generator_first generator children) ≡ rows_beside (forest (option_to_list generator)) (forest children)
 generator_beside None children = refl
 generator_beside (Some node) children = forest_beside (node ∷ []) children
 
 module _ {P : Type 0} (wraps : P → ℕ) (version : Version) (levels : ℕ) where
-  pub optional_room : (o : Option Data) (old : Met P) (y : Forest P × Met P) → optional (tree wraps version levels) o old ≡ Ok y → HasRoom levels old → HasRoom levels y.1
+  pub optional_room : (o : Option Data) (old : Met P) (y : Forest P × Met P) → optional (tree wraps version levels) o old ≡ Ok y → LevelsHaveRoom levels old → LevelsHaveRoom levels y.1
   optional_room o old y e h = room_after wraps levels y.0 old y.1 (optional_read wraps levels (tree wraps version levels) (tree_read wraps version levels) o old y e).0 h
 
-  pub few_children : (ds : Items) (nodes : List (Node P)) (old new : Met P) → row (tree wraps version levels) ds old ≡ Ok (forest nodes, new) → HasRoom levels old → length nodes < 2 ^ 32
+  pub few_children : (ds : Items) (nodes : List (Node P)) (old new : Met P) → row (tree wraps version levels) ds old ≡ Ok (forest nodes, new) → LevelsHaveRoom levels old → length nodes < 2 ^ 32
   few_children ds nodes old new e h =
       let r = (row_read wraps levels (tree wraps version levels) (tree_read wraps version levels) ds old (forest nodes, new) e).0 in
       let room = room_after wraps levels (forest nodes) old new r h in
       omega (arith, r.count, count_forest nodes, room.nodes, room.keys, room.leaves)
 
   multi_is : (o : Option Data) (ds : Items) (a b : Forest P) (old mid new : Met P) → optional (tree wraps version levels) o old ≡ Ok (a, mid) → row (tree wraps version levels) ds mid ≡ Ok (b, new)
-      → multi (tree wraps version levels) o ds old ≡ Ok ((is_some o, beside a b), new)
+      → multi (tree wraps version levels) o ds old ≡ Ok ((is_some o, rows_beside a b), new)
   unfolding multi
   multi_is o ds a b old mid new one two = rw (one, two) refl
 
 -- the members that a walk reads make a multi-keyring
 pub members_made : {P : Type 0} (leaf : P → KeyringMeaning) (version : Version) (levels : ℕ) (o : Option Data) (ds : Items) (generator : Option (Node P)) (children : List (Node P)) (old mid new : Met P)
-    → levels ≤ 7 → HasRoom levels old → has_node o ds ≡ true
+    → levels ≤ 7 → LevelsHaveRoom levels old → has_node o ds ≡ true
     → optional (tree (wraps_of leaf) version levels) o old ≡ Ok (forest (option_to_list generator), mid) → row (tree (wraps_of leaf) version levels) ds mid ≡ Ok (forest children, new)
     → multi_fault leaf (generator_first generator children) ≡ None
 members_made leaf version levels o ds generator children old mid new low h has one two =
     let wraps = wraps_of leaf in
-    let members = beside (forest (option_to_list generator)) (forest children) in
+    let members = rows_beside (forest (option_to_list generator)) (forest children) in
     let same = generator_beside generator children in
     let is = multi_is wraps version levels o ds (forest (option_to_list generator)) (forest children) old mid new one two in
     let read = multi_read wraps levels (tree wraps version levels) (tree_read wraps version levels) o ds old ((is_some o, members), new) has is in

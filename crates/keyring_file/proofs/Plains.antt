@@ -9,9 +9,9 @@ use Rattle.esdk_fields.specs.declared.refusals.FileRefusal.TheVariants.{BadShape
 use Rattle.keyring_file.specs.declared.form.Version.{Version}
 use Rattle.keyring_file.specs.Form.{Form, RawForm, PlugForm, MultiForm, form_of, lists_children}
 use Rattle.keyring_file.specs.Leaves.{raw_key}
-use Rattle.keyring_file.specs.Walk.{Met, Walk, counted}
+use Rattle.keyring_file.specs.Walk.{Met, Walk, count_leaves}
 use Rattle.keyring_file.specs.Plain.{IsPlain, IsPlainObject}
-use Rattle.keyring_file.specs.Migrate.{raw_node, plug_node, multi_node, file_of, file_with, is_at, list_if, migrated, migrated_form, migrated_multi, migrated_optional, migrated_row}
+use Rattle.keyring_file.specs.Migrate.{raw_node, plug_node, multi_node, version_2_file, file_with, is_at, list_if, migrated, migrated_form, migrated_multi, migrated_optional, migrated_row}
 use Rattle.keyring_file.proofs.RawKeys.{result_is}
 use Rattle.keyring_file.proofs.Steps.{went, got, with_node}
 
@@ -53,7 +53,7 @@ multi_plain n None (Some b) g c =
 multi_plain n (Some a) (Some b) g c =
     record { whole = either _ _ (either _ _ c.whole (either _ _ g.whole refl)) refl; numbers = ((c.numbers, (g.numbers, tt)), tt); shallow = omega (arith, g.shallow, c.shallow) }
 
-pub file_plain : (n : ℕ) (node : Data) → IsPlain n node → IsPlain (n + 1) (file_of node)
+pub file_plain : (n : ℕ) (node : Data) → IsPlain n node → IsPlain (n + 1) (version_2_file node)
 file_plain n node p =
     record { whole = either _ _ p.whole refl; numbers = (p.numbers, (IsNumber-decimal 2 (omega arith), tt)); shallow = omega (arith, p.shallow) }
 
@@ -83,7 +83,7 @@ module _ {P : Type 0} (n : ℕ) (below : Data → Walk P (Data × Bool)) (plain 
       subst (λ y. IsPlain (n + 3) y.0.0) (result_is ((node, is_at place retire), a.value.1) y a.rest)
       (deeper 3 (n + 3) node (raw_plain namespace name text (is_at place retire || retired)) (omega arith))
   form_plain retire place listed (PlugForm name) old y e =
-      let a = went (counted 1 old) _ y e in
+      let a = went (count_leaves 1 old) _ y e in
       subst (λ y. IsPlain (n + 3) y.0.0) (result_is ((plug_node name, false), a.value.1) y a.rest) (deeper 3 (n + 3) (plug_node name) (plug_plain name) (omega arith))
   form_plain retire place listed (MultiForm generator children) old y e =
       let a = went (migrated_optional below generator old) _ y e in
@@ -105,12 +105,12 @@ migrated_plain retire version (suc levels) d old y e =
     (form_plain (3 * levels) (migrated retire version levels) (migrated_plain retire version levels) retire (old.nodes + 1) (lists_children d) a.value (with_node old) y a.rest) (omega arith)
 
 -- the file of a node that can be written
-pub file_made : (node file : Data) → IsPlain 126 node → file ≡ file_of node → IsPlainObject file
+pub file_made : (node file : Data) → IsPlain 126 node → file ≡ version_2_file node → IsPlainObject file
 file_made node file p is = subst IsPlainObject (sym is) (record { plain = file_plain 126 node p; object = refl })
 
 -- the raw key that is to be retired was found, or none is
-pub file_found : (retire : Option ℕ) (n : ℕ) (node file : Data) (found : Bool) → retire ≡ Some n → found ≡ true → file ≡ file_of node → file_with retire node found ≡ Ok file
+pub file_found : (retire : Option ℕ) (n : ℕ) (node file : Data) (found : Bool) → retire ≡ Some n → found ≡ true → file ≡ version_2_file node → file_with retire node found ≡ Ok file
 file_found retire n node file found is there same = rw (is, there, same) refl
 
-pub file_unasked : (retire : Option ℕ) (node file : Data) (found : Bool) → retire ≡ None → file ≡ file_of node → file_with retire node found ≡ Ok file
+pub file_unasked : (retire : Option ℕ) (node file : Data) (found : Bool) → retire ≡ None → file ≡ version_2_file node → file_with retire node found ≡ Ok file
 file_unasked retire node file found is same = rw (is, same) refl

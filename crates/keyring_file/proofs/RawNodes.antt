@@ -8,14 +8,14 @@ use Rattle.esdk_fields.specs.declared.refusals.FileRefusal.TheVariants.{BadShape
 use Rattle.keyring_trait.specs.Wrapping.{WrapKeyValue}
 use Rattle.base64.specs.GeneralPurpose.{encode_of}
 use Rattle.base64.specs.Engines.{standard}
-use Rattle.json_values.specs.Values.{value_of}
+use Rattle.json_values.specs.Values.{json_value}
 use Rattle.keyring_file.specs.declared.form.Version.{Version}
 use Rattle.keyring_file.specs.KeyLine.{key_line}
-use Rattle.keyring_file.specs.KeyFile.{is_json, start}
+use Rattle.keyring_file.specs.KeyFile.{is_json, nothing_met}
 use Rattle.keyring_file.specs.Form.{Form, RawForm, PlugForm, MultiForm, form_of, ring_of, lists_children}
-use Rattle.keyring_file.specs.Walk.{Met, Walk, then_walk, or_refuse, counted}
+use Rattle.keyring_file.specs.Walk.{Met, Walk, then_walk, walk_or_refuse, count_leaves}
 use Rattle.keyring_file.specs.Leaves.{raw_key}
-use Rattle.keyring_file.specs.Migrate.{raw_node, plug_node, multi_node, file_of, is_at, list_if, migrated, migrated_form, migrated_multi, migrated_optional, migrated_row, file_with, file_walked, ring_migration, json_migration, line_migration, migration}
+use Rattle.keyring_file.specs.Migrate.{raw_node, plug_node, multi_node, version_2_file, is_at, list_if, migrated, migrated_form, migrated_multi, migrated_optional, migrated_row, file_with, file_walked, ring_migration, json_migration, line_migration, migration}
 use Rattle.keyring_file.specs.RawNodes.{row_nodes, optional_nodes, form_nodes, node_nodes, ring_nodes, json_nodes, file_nodes, is_raw}
 use Rattle.keyring_file.specs.Laws.{RetiresIf, RetiresAs}
 use Rattle.keyring_file.proofs.RawKeys.{key_read}
@@ -150,10 +150,10 @@ module _ {P : Type 0} (number : ℕ) where
     plug_along : (listed : Bool) (name : List ℕ) (s : Met P)
         → Alongside (IsFound s.nodes (false ∷ [])) (migrated_form None one (s.nodes + 1) listed (PlugForm name) (with_node s))
         (migrated_form (Some number) two (s.nodes + 1) listed (PlugForm name) (with_node s))
-    unfolding counted
+    unfolding count_leaves
     plug_along listed name s =
-        along_then (λ a b m. m.nodes ≡ s.nodes + 1) (IsFound s.nodes (false ∷ [])) (counted 1 (with_node s)) (counted 1 (with_node s)) _ _
-        (along_same (λ a b m. m.nodes ≡ s.nodes + 1) (counted 1 (with_node s)) (λ x is. counted_nodes (nat_lt 64 (s.leaves + 1)) 1 (with_node s) x is))
+        along_then (λ a b m. m.nodes ≡ s.nodes + 1) (IsFound s.nodes (false ∷ [])) (count_leaves 1 (with_node s)) (count_leaves 1 (with_node s)) _ _
+        (along_same (λ a b m. m.nodes ≡ s.nodes + 1) (count_leaves 1 (with_node s)) (λ x is. counted_nodes (nat_lt 64 (s.leaves + 1)) 1 (with_node s) x is))
         (λ a b m at. record { value = (plug_node name, false); is = refl; related = (refl, omega (arith, at)) })
 
     under_along : (listed : Bool) (o : Option Data) (ds : Items) (s : Met P)
@@ -168,15 +168,15 @@ module _ {P : Type 0} (number : ℕ) where
         numbered_on (Err refusal) y both = both
 
     form_along : (listed : Bool) (found : Option Form) (s : Met P)
-        → Alongside (IsFound s.nodes (form_nodes below found)) (then_walk (or_refuse (BadShape (s.nodes + 1)) found (with_node s)) (migrated_form None one (s.nodes + 1) listed))
-        (then_walk (or_refuse (BadShape (s.nodes + 1)) found (with_node s)) (migrated_form (Some number) two (s.nodes + 1) listed))
+        → Alongside (IsFound s.nodes (form_nodes below found)) (then_walk (walk_or_refuse (BadShape (s.nodes + 1)) found (with_node s)) (migrated_form None one (s.nodes + 1) listed))
+        (then_walk (walk_or_refuse (BadShape (s.nodes + 1)) found (with_node s)) (migrated_form (Some number) two (s.nodes + 1) listed))
     form_along listed (Some (RawForm namespace name text retired)) s = raw_along listed namespace name text retired s
     form_along listed (Some (PlugForm name)) s = plug_along listed name s
     form_along listed (Some (MultiForm o ds)) s = under_along listed o ds s
     form_along listed None s = refl
 
   none_along : (found : Option Form) (nodes : List Bool) (refusal : FileRefusal) (s m : Met P)
-      → Alongside (IsFound {A = Data} s.nodes nodes) (then_walk (or_refuse refusal found m) (λ form. or_refuse TooDeep None)) (then_walk (or_refuse refusal found m) (λ form. or_refuse TooDeep None))
+      → Alongside (IsFound {A = Data} s.nodes nodes) (then_walk (walk_or_refuse refusal found m) (λ form. walk_or_refuse TooDeep None)) (then_walk (walk_or_refuse refusal found m) (λ form. walk_or_refuse TooDeep None))
   none_along (Some form) nodes refusal s m = refl
   none_along None nodes refusal s m = refl
 
@@ -193,7 +193,7 @@ module _ (number : ℕ) where
   retires raw found node is = subst (λ b. RetiresIf number b (file_with (Some number) node found)) is (by found)
     where
       by : (found : Bool) → RetiresIf number found (file_with (Some number) node found)
-      by true = (file_of node, refl)
+      by true = (version_2_file node, refl)
       by false = refl
 
   walked_retires : (nodes : List Bool) (one two : Result ((Data × Bool) × Met (Unit {0})) FileRefusal) → Alongside (IsFound number 0 nodes) one two
@@ -204,8 +204,8 @@ module _ (number : ℕ) where
 
   ring_retires : (ring : Option (Version × Data)) → RetiresAs number (ring_nodes ring) (ring_migration None ring) (ring_migration (Some number) ring)
   ring_retires (Some (version, node)) =
-      walked_retires (node_nodes version 8 node) (migrated None version 8 node (start {P = Unit {0}} [])) (migrated (Some number) version 8 node (start {P = Unit {0}} []))
-      (node_along number version 8 node (start {P = Unit {0}} []))
+      walked_retires (node_nodes version 8 node) (migrated None version 8 node (nothing_met {P = Unit {0}} [])) (migrated (Some number) version 8 node (nothing_met {P = Unit {0}} []))
+      (node_along number version 8 node (nothing_met {P = Unit {0}} []))
   ring_retires None = refl
 
   json_retires : (file : Option Data) → RetiresAs number (json_nodes file) (json_migration None file) (json_migration (Some number) file)
@@ -222,8 +222,8 @@ module _ (number : ℕ) where
   unfolding migration file_nodes
   file_retires bytes = either (is_json bytes)
     where
-      either : (json : Bool) → RetiresAs number (if json then json_nodes (value_of bytes) else true ∷ [])
-          (if json then json_migration None (value_of bytes) else line_migration None (key_line bytes))
-          (if json then json_migration (Some number) (value_of bytes) else line_migration (Some number) (key_line bytes))
-      either true = json_retires (value_of bytes)
+      either : (json : Bool) → RetiresAs number (if json then json_nodes (json_value bytes) else true ∷ [])
+          (if json then json_migration None (json_value bytes) else line_migration None (key_line bytes))
+          (if json then json_migration (Some number) (json_value bytes) else line_migration (Some number) (key_line bytes))
+      either true = json_retires (json_value bytes)
       either false = line_retires (key_line bytes)

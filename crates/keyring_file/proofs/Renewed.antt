@@ -9,9 +9,9 @@ use Rattle.multi_keyring.specs.Forest.{Forest, Nil, RawThen, HandedThen, MultiTh
 use Rattle.keyring_file.specs.declared.form.Version.{Version}
 use Rattle.keyring_file.specs.declared.form.Version.TheVariants.{Two}
 use Rattle.keyring_file.specs.Form.{Form, RawForm, PlugForm, MultiForm, form_of, has_node, is_empty, lists_children}
-use Rattle.keyring_file.specs.Walk.{Met, Walk, then_walk, done}
+use Rattle.keyring_file.specs.Walk.{Met, Walk, then_walk, walk_done}
 use Rattle.keyring_file.specs.Leaves.{wrap_key, raw_key, raw_leaf, plug_leaf}
-use Rattle.keyring_file.specs.Tree.{beside, row, optional, multi, formed, tree}
+use Rattle.keyring_file.specs.Tree.{rows_beside, row, optional, multi, formed, tree}
 use Rattle.keyring_file.specs.Migrate.{raw_node, plug_node, multi_node, is_at, list_if, migrated, migrated_form, migrated_multi, migrated_optional, migrated_row}
 use Rattle.keyring_file.specs.Retired.{nodes_in, retired_if, retired_from}
 use Rattle.keyring_file.proofs.Facts.{tree_read}
@@ -22,7 +22,7 @@ use Rattle.keyring_file.proofs.Steps.{went, got, counted_on, used_on, with_leave
 -- ---- rows
 
 module _ {P : Type 0} (retire : Option ℕ) where
-  retired_beside : (place next : ℕ) (a b : Forest P) → next ≡ place + nodes_in a → retired_from retire place (beside a b) ≡ beside (retired_from retire place a) (retired_from retire next b)
+  retired_beside : (place next : ℕ) (a b : Forest P) → next ≡ place + nodes_in a → retired_from retire place (rows_beside a b) ≡ rows_beside (retired_from retire place a) (retired_from retire next b)
   retired_beside place next Nil b is = ap (λ n. retired_from retire n b) (omega (arith, is))
   retired_beside place next (RawThen w rest) b is = ap (RawThen (retired_if (is_at place retire) w)) (retired_beside (place + 1) next rest b (omega (arith, is)))
   retired_beside place next (HandedThen keyring rest) b is = ap (HandedThen keyring) (retired_beside (place + 1) next rest b (omega (arith, is)))
@@ -31,11 +31,11 @@ module _ {P : Type 0} (retire : Option ℕ) where
 
   -- what is read, but for the key that is retired; the first node has this number
   abbrev pub renewed : ℕ → Result (Forest P × Met P) FileRefusal → Result (Forest P × Met P) FileRefusal
-  renewed place read = then_walk read (λ trees. done (retired_from retire place trees))
+  renewed place read = then_walk read (λ trees. walk_done (retired_from retire place trees))
 
   -- these trees, and behind them those that are left
   abbrev behind : Forest P → Result (Forest P × Met P) FileRefusal → Result (Forest P × Met P) FileRefusal
-  behind trees left = then_walk left (λ others. done (beside trees others))
+  behind trees left = then_walk left (λ others. walk_done (rows_beside trees others))
 
   behind_renewed : (place next : ℕ) (a : Forest P) (left : Result (Forest P × Met P) FileRefusal) → next ≡ place + nodes_in a
       → behind (retired_from retire place a) (renewed next left) ≡ renewed place (behind a left)
@@ -43,7 +43,7 @@ module _ {P : Type 0} (retire : Option ℕ) where
   behind_renewed place next a (Err refusal) is = refl
 
 row_begins : {P : Type 0} (below : Data → Walk P (Forest P)) (d : Data) (ds : Items) (old : Met P) (first : Forest P × Met P) → below d old ≡ Ok first
-    → row below (item d ds) old ≡ then_walk (row below ds first.1) (λ others. done (beside first.0 others))
+    → row below (item d ds) old ≡ then_walk (row below ds first.1) (λ others. walk_done (rows_beside first.0 others))
 unfolding row
 row_begins below d ds old first is = rw is refl
 
@@ -75,22 +75,22 @@ stopped retire old new before after refusal one two =
 
 -- the members of a multi-keyring, and these behind the first
 abbrev members_with : {P : Type 0} → Bool → Forest P → Forest P → Walk P (Bool × Forest P)
-members_with has first others = done (has, beside first others)
+members_with has first others = walk_done (has, rows_beside first others)
 
 -- the members of a multi-keyring, as one tree
 abbrev as_multi : {P : Type 0} → Bool × Forest P → Walk P (Forest P)
-as_multi members = done (MultiThen members.0 members.1 Nil)
+as_multi members = walk_done (MultiThen members.0 members.1 Nil)
 
 abbrev one_multi : {P : Type 0} → (Data → Walk P (Forest P)) → Option Data → Items → Walk P (Forest P)
 one_multi below o ds m = then_walk (multi below o ds m) as_multi
 
 multi_regrouped : {P : Type 0} (has : Bool) (first : Forest P) (left : Result (Forest P × Met P) FileRefusal)
-    → then_walk (then_walk left (members_with has first)) as_multi ≡ then_walk left (λ others. done (MultiThen has (beside first others) Nil))
+    → then_walk (then_walk left (members_with has first)) as_multi ≡ then_walk left (λ others. walk_done (MultiThen has (rows_beside first others) Nil))
 multi_regrouped has first (Ok x) = refl
 multi_regrouped has first (Err refusal) = refl
 
 multi_is : {P : Type 0} (below : Data → Walk P (Forest P)) (o : Option Data) (ds : Items) (m : Met P) (first : Forest P × Met P) → optional below o m ≡ Ok first
-    → one_multi below o ds m ≡ then_walk (row below ds first.1) (λ others. done (MultiThen (is_some o) (beside first.0 others) Nil))
+    → one_multi below o ds m ≡ then_walk (row below ds first.1) (λ others. walk_done (MultiThen (is_some o) (rows_beside first.0 others) Nil))
 unfolding multi
 multi_is below o ds m first is = rw is (multi_regrouped (is_some o) first.0 (row below ds first.1))
 
@@ -111,8 +111,8 @@ module _ {P Q : Type 0} (retire : Option ℕ) (old new : Data → Walk P (Forest
             ∙ behind_renewed retire (m.nodes + 1) (z.1.nodes + 1) z.0 (row old ds z.1) (omega (arith, numbers d m z is))
             ∙ ap (renewed retire (m.nodes + 1)) (sym more);
         nodes = λ x so.
-            let w = went (row old ds z.1) (λ others. done (beside z.0 others)) x (sym more ∙ so) in
-            ap (λ p. p.1.nodes) (sym (result_is (beside z.0 w.value.0, w.value.1) x w.rest)) ∙ two.nodes w.value w.is;
+            let w = went (row old ds z.1) (λ others. walk_done (rows_beside z.0 others)) x (sym more ∙ so) in
+            ap (λ p. p.1.nodes) (sym (result_is (rows_beside z.0 w.value.0, w.value.1) x w.rest)) ∙ two.nodes w.value w.is;
       }
 
   row_by_first : (d : Data) (ds : Items) (a : (Data × Bool) × Met Q) (b : (Items × Bool) × Met Q) (m : Met P) → AreKept retire (old d m) (new a.0.0 m) m a.1
@@ -161,8 +161,8 @@ module _ {P Q : Type 0} (retire : Option ℕ) (old new : Data → Walk P (Forest
       ap (λ p. is_empty p.0.0) (sym (result_is ((item a.value.0.0 b.value.0.0, a.value.0.1 || b.value.0.1), b.value.1) y b.rest))
 
   one_renewed : (has : Bool) (place next : ℕ) (a : Forest P) (left : Result (Forest P × Met P) FileRefusal) → next ≡ place + 1 + nodes_in a
-      → then_walk (renewed retire next left) (λ others. done (MultiThen has (beside (retired_from retire (place + 1) a) others) Nil))
-      ≡ renewed retire place (then_walk left (λ others. done (MultiThen has (beside a others) Nil)))
+      → then_walk (renewed retire next left) (λ others. walk_done (MultiThen has (rows_beside (retired_from retire (place + 1) a) others) Nil))
+      ≡ renewed retire place (then_walk left (λ others. walk_done (MultiThen has (rows_beside a others) Nil)))
   one_renewed has place next a (Ok x) is = ap (λ members. Ok (MultiThen has members Nil, x.1)) (sym (retired_beside retire (place + 1) next a x.0 is))
   one_renewed has place next a (Err refusal) is = refl
 
@@ -184,13 +184,13 @@ module _ {P Q : Type 0} (retire : Option ℕ) (old new : Data → Walk P (Forest
           let count = optional_numbers o (with_node m) z here in
           record {
             trees = multi_is new a.0.0 b.0.0 (with_node m) (retired_from retire (m.nodes + 1 + 1) z.0, z.1) first
-                ∙ ap (λ has. then_walk (row new b.0.0 z.1) (λ others. done (MultiThen has (beside (retired_from retire (m.nodes + 1 + 1) z.0) others) Nil))) there
-                ∙ ap (λ left. then_walk left (λ others. done (MultiThen (is_some o) (beside (retired_from retire (m.nodes + 1 + 1) z.0) others) Nil))) two.trees
+                ∙ ap (λ has. then_walk (row new b.0.0 z.1) (λ others. walk_done (MultiThen has (rows_beside (retired_from retire (m.nodes + 1 + 1) z.0) others) Nil))) there
+                ∙ ap (λ left. then_walk left (λ others. walk_done (MultiThen (is_some o) (rows_beside (retired_from retire (m.nodes + 1 + 1) z.0) others) Nil))) two.trees
                 ∙ one_renewed (is_some o) (m.nodes + 1) (z.1.nodes + 1) z.0 (row old ds z.1) (omega (arith, count))
                 ∙ ap (renewed retire (m.nodes + 1)) (sym whole);
             nodes = λ x so.
-                let w = went (row old ds z.1) (λ others. done (MultiThen (is_some o) (beside z.0 others) Nil)) x (sym whole ∙ so) in
-                ap (λ p. p.1.nodes) (sym (result_is (MultiThen (is_some o) (beside z.0 w.value.0) Nil, w.value.1) x w.rest)) ∙ two.nodes w.value w.is;
+                let w = went (row old ds z.1) (λ others. walk_done (MultiThen (is_some o) (rows_beside z.0 others) Nil)) x (sym whole ∙ so) in
+                ap (λ p. p.1.nodes) (sym (result_is (MultiThen (is_some o) (rows_beside z.0 w.value.0) Nil, w.value.1) x w.rest)) ∙ two.nodes w.value w.is;
           }
 
 -- ---- leaves
@@ -201,11 +201,11 @@ retired_key false retired namespace name key = refl
 
 -- a raw key, as a tree
 abbrev pub as_raw : {P : Type 0} → WrapKeyValue → Walk P (Forest P)
-as_raw w = done (RawThen w Nil)
+as_raw w = walk_done (RawThen w Nil)
 
 -- a raw key of these bytes
 abbrev with_bytes : {P : Type 0} → List ℕ → List ℕ → Bool → List ℕ → Walk P WrapKeyValue
-with_bytes namespace name retired key = done (wrap_key namespace name key retired)
+with_bytes namespace name retired key = walk_done (wrap_key namespace name key retired)
 
 abbrev pub one_raw : {P : Type 0} → List ℕ → List ℕ → List ℕ → ℕ → Bool → Walk P (Forest P)
 one_raw namespace name text place retired m = then_walk (raw_leaf place namespace name text retired m) as_raw
@@ -222,8 +222,8 @@ raw_is namespace name text place retired m = raw_regrouped namespace name retire
 
 module _ {P : Type 0} (retire : Option ℕ) (namespace name text : List ℕ) (retired : Bool) where
   raw_renewed : (place : ℕ) (left : Result (List ℕ × Met P) FileRefusal)
-      → then_walk left (λ key. done (RawThen (wrap_key namespace name key (is_at place retire || retired)) Nil))
-      ≡ renewed retire place (then_walk left (λ key. done (RawThen (wrap_key namespace name key retired) Nil)))
+      → then_walk left (λ key. walk_done (RawThen (wrap_key namespace name key (is_at place retire || retired)) Nil))
+      ≡ renewed retire place (then_walk left (λ key. walk_done (RawThen (wrap_key namespace name key retired) Nil)))
   raw_renewed place (Ok x) = ap (λ w. Ok (RawThen w Nil, x.1)) (retired_key (is_at place retire) retired namespace name x.0)
   raw_renewed place (Err refusal) = refl
 
@@ -236,7 +236,7 @@ module _ {P : Type 0} (retire : Option ℕ) (namespace name text : List ℕ) (re
       record {
         trees = raw_is namespace name text (m.nodes + 1) (is_at (m.nodes + 1) retire || retired) (with_node m) ∙ raw_renewed (m.nodes + 1) key ∙ ap (renewed retire (m.nodes + 1)) (sym whole);
         nodes = λ z so.
-            let w = went key (λ key. done (RawThen (wrap_key namespace name key retired) Nil)) z (sym whole ∙ so) in
+            let w = went key (λ key. walk_done (RawThen (wrap_key namespace name key retired) Nil)) z (sym whole ∙ so) in
             let here = (key_read (m.nodes + 1) namespace name text (with_node m) w.value w.is).new in
             ap (λ p. p.1.nodes) (sym (result_is (RawThen (wrap_key namespace name w.value.0 retired) Nil, w.value.1) z w.rest)) ∙ omega (arith, ap (λ m. m.nodes) here, ap (λ m. m.nodes) met, same);
       }
@@ -244,10 +244,10 @@ module _ {P : Type 0} (retire : Option ℕ) (namespace name text : List ℕ) (re
 module _ {P : Type 0} (retire : Option ℕ) (wraps : P → ℕ) (name : List ℕ) where
   -- a keyring that is handed over, as a tree
   abbrev one_plug : Walk P (Forest P)
-  one_plug m = then_walk (plug_leaf wraps name m) (λ keyring. done (HandedThen keyring Nil))
+  one_plug m = then_walk (plug_leaf wraps name m) (λ keyring. walk_done (HandedThen keyring Nil))
 
   plug_renewed : (place : ℕ) (left : Result (P × Met P) FileRefusal)
-      → then_walk left (λ keyring. done (HandedThen keyring Nil)) ≡ renewed retire place (then_walk left (λ keyring. done (HandedThen keyring Nil)))
+      → then_walk left (λ keyring. walk_done (HandedThen keyring Nil)) ≡ renewed retire place (then_walk left (λ keyring. walk_done (HandedThen keyring Nil)))
   plug_renewed place (Ok x) = refl
   plug_renewed place (Err refusal) = refl
 
@@ -262,7 +262,7 @@ module _ {P : Type 0} (retire : Option ℕ) (wraps : P → ℕ) (name : List ℕ
   plug_kept s m same = record {
     trees = plug_renewed (m.nodes + 1) (plug_leaf wraps name (with_node m));
     nodes = λ z so.
-        let w = went (plug_leaf wraps name (with_node m)) (λ keyring. done (HandedThen keyring Nil)) z so in
+        let w = went (plug_leaf wraps name (with_node m)) (λ keyring. walk_done (HandedThen keyring Nil)) z so in
         ap (λ p. p.1.nodes) (sym (result_is (HandedThen w.value.0 Nil, w.value.1) z w.rest)) ∙ omega (arith, plug_nodes (with_node m) w.value w.is, same);
   }
 

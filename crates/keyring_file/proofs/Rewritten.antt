@@ -9,7 +9,7 @@ use Rattle.esdk_fields.specs.declared.refusals.FileRefusal.{FileRefusal}
 use Rattle.esdk_fields.specs.declared.refusals.FileRefusal.TheVariants.{BadShape, TooDeep}
 use Rattle.keyring_file.specs.declared.form.Version.{Version}
 use Rattle.keyring_file.specs.Form.{Form, form_of, lists_children}
-use Rattle.keyring_file.specs.Walk.{Met, Walk, then_walk, done}
+use Rattle.keyring_file.specs.Walk.{Met, Walk, then_walk, walk_done}
 use Rattle.keyring_file.specs.Migrate.{migrated, migrated_form, migrated_row}
 use Rattle.keyring_file.proofs.Steps.{with_node}
 
@@ -24,7 +24,7 @@ none_behind (v ∷ vs) = ap (item (view v)) (none_behind vs)
 
 -- these nodes, and behind them those that are left
 abbrev pub behind_made : {P : Type 0} → List Value → Bool → Result ((Items × Bool) × Met P) FileRefusal → Result ((Items × Bool) × Met P) FileRefusal
-behind_made made found left = then_walk left (λ others. done (items_before made others.0, found || others.1))
+behind_made made found left = then_walk left (λ others. walk_done (items_before made others.0, found || others.1))
 
 pub none_made : {P : Type 0} (left : Result ((Items × Bool) × Met P) FileRefusal) → left ≡ behind_made [] false left
 none_made (Ok x) = refl
@@ -40,7 +40,7 @@ or_assoc false b c = refl
 
 -- one node, and those behind it
 abbrev with_first : {P : Type 0} → Value → Bool → Result ((Items × Bool) × Met P) FileRefusal → Result ((Items × Bool) × Met P) FileRefusal
-with_first v here left = then_walk left (λ others. done (item (view v) others.0, here || others.1))
+with_first v here left = then_walk left (λ others. walk_done (item (view v) others.0, here || others.1))
 
 one_made : {P : Type 0} (made : List Value) (found : Bool) (v : Value) (here : Bool) (left : Result ((Items × Bool) × Met P) FileRefusal)
     → behind_made made found (with_first v here left) ≡ behind_made (made ++ v ∷ []) (found || here) left

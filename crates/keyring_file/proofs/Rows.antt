@@ -14,22 +14,22 @@ use Rattle.json_values.specs.declared.errors.ReadError.{ReadError}
 use Rattle.json_values.specs.declared.errors.ReadError.TheVariants.{File, Memory}
 use Rattle.keyring_file.specs.declared.walk.Walk as walk
 use Rattle.keyring_file.specs.declared.form.Version.{Version}
-use Rattle.keyring_file.specs.Found.{Gives}
+use Rattle.keyring_file.specs.Found.{WalkGives}
 use Rattle.keyring_file.specs.Form.{Form, form_of}
-use Rattle.keyring_file.specs.Walk.{Met, Walk, then_walk, done}
-use Rattle.keyring_file.specs.Tree.{beside, row, formed, tree}
+use Rattle.keyring_file.specs.Walk.{Met, Walk, then_walk, walk_done}
+use Rattle.keyring_file.specs.Tree.{rows_beside, row, formed, tree}
 use Rattle.keyring_file.proofs.Beside.{forest_beside, beside_nil, beside_assoc}
 use Rattle.keyring_file.proofs.Steps.{with_node}
 
 -- these trees, and behind them those that are left
 abbrev pub behind_these : {P : Type 0} → Forest P → Result (Forest P × Met P) FileRefusal → Result (Forest P × Met P) FileRefusal
-behind_these trees left = then_walk left (λ others. done (beside trees others))
+behind_these trees left = then_walk left (λ others. walk_done (rows_beside trees others))
 
 pub behind_none : {P : Type 0} (left : Result (Forest P × Met P) FileRefusal) → left ≡ behind_these Nil left
 behind_none (Ok x) = refl
 behind_none (Err refusal) = refl
 
-regrouped : {P : Type 0} (a b : Forest P) (left : Result (Forest P × Met P) FileRefusal) → behind_these a (behind_these b left) ≡ behind_these (beside a b) left
+regrouped : {P : Type 0} (a b : Forest P) (left : Result (Forest P × Met P) FileRefusal) → behind_these a (behind_these b left) ≡ behind_these (rows_beside a b) left
 regrouped a b (Ok x) = ap (λ trees. Ok (trees, x.1)) (beside_assoc a b x.0)
 regrouped a b (Err refusal) = refl
 
@@ -97,6 +97,6 @@ tree_formed wraps version (suc levels) d met form is some =
 -- where a part of a walk stops, the whole stops
 pub stops : {P A B C D : Type 0} (one : A → B) (two : C → D) (r : Result C ReadError) (e : ReadError) (now : walk.Walk P)
     (part : Result (B × Met P) FileRefusal) (whole : Result (D × Met P) FileRefusal) → r ≡ Err e → ((refusal : FileRefusal) → part ≡ Err refusal → whole ≡ Err refusal)
-    → Gives one (Err e) now part → Gives two r now whole
-stops one two r (File refusal) now part whole is so g = subst (λ r. Gives two r now whole) (sym is) (so refusal g)
-stops one two r Memory now part whole is so g = subst (λ r. Gives two r now whole) (sym is) tt
+    → WalkGives one (Err e) now part → WalkGives two r now whole
+stops one two r (File refusal) now part whole is so g = subst (λ r. WalkGives two r now whole) (sym is) (so refusal g)
+stops one two r Memory now part whole is so g = subst (λ r. WalkGives two r now whole) (sym is) tt

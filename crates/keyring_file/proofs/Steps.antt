@@ -9,7 +9,7 @@ use Rattle.esdk_fields.specs.declared.refusals.FileRefusal.TheVariants.{TooManyL
 use Rattle.keyring_trait.specs.Wrapping.{WrapKeyValue}
 use Rattle.keyring_file.specs.declared.plugs.Plug.{Plug}
 use Rattle.keyring_file.specs.Plugs.{taken}
-use Rattle.keyring_file.specs.Walk.{Met, Walk, then_walk, or_refuse, refuse_if, counted, kept, used, used_of, is_another_key}
+use Rattle.keyring_file.specs.Walk.{Met, Walk, then_walk, walk_or_refuse, walk_refuse_if, count_leaves, kept, used, plug_used, is_another_key}
 
 -- what was met, with one more
 abbrev pub with_leaves : {P : Type 0} → ℕ → Met P → Met P
@@ -35,7 +35,7 @@ went (Ok x) next y e = record { value = x; is = refl; rest = e }
 went (Err refusal) next y e = absurd cc
 
 pub passed : {P B : Type 0} (test : Bool) (refusal : FileRefusal) (next : Unit {0} → Walk P B) (met : Met P) (y : B × Met P)
-    → then_walk (refuse_if test refusal met) next ≡ Ok y → next tt met ≡ Ok y
+    → then_walk (walk_refuse_if test refusal met) next ≡ Ok y → next tt met ≡ Ok y
 passed true refusal next met y e = absurd cc
 passed false refusal next met y e = e
 
@@ -45,7 +45,7 @@ pub record Got {P A B : Type 0} (found : Option A) (next : A → Walk P B) (met 
   pub rest : next value met ≡ Ok y
 
 pub got : {P A B : Type 0} (refusal : FileRefusal) (found : Option A) (next : A → Walk P B) (met : Met P) (y : B × Met P)
-    → then_walk (or_refuse refusal found met) next ≡ Ok y → Got found next met y
+    → then_walk (walk_or_refuse refusal found met) next ≡ Ok y → Got found next met y
 got refusal (Some x) next met y e = record { value = x; is = refl; rest = e }
 got refusal None next met y e = absurd cc
 
@@ -58,8 +58,8 @@ counted_by : {P B : Type 0} (test : Bool) (n : ℕ) (next : Unit {0} → Walk P 
 counted_by true n next met y is e = absurd cc
 counted_by false n next met y is e = record { most = ltb-false 64 (met.leaves + n) is; rest = e }
 
-pub counted_on : {P B : Type 0} (n : ℕ) (next : Unit {0} → Walk P B) (met : Met P) (y : B × Met P) → then_walk (counted n met) next ≡ Ok y → Counted n next met y
-unfolding counted
+pub counted_on : {P B : Type 0} (n : ℕ) (next : Unit {0} → Walk P B) (met : Met P) (y : B × Met P) → then_walk (count_leaves n met) next ≡ Ok y → Counted n next met y
+unfolding count_leaves
 counted_on n next met y e = counted_by (nat_lt 64 (met.leaves + n)) n next met y refl e
 
 pub record Kept {P B : Type 0} (w : WrapKeyValue) (next : Unit {0} → Walk P B) (met : Met P) (y : B × Met P) : Type 0 where
@@ -95,7 +95,7 @@ pub record Used {P B : Type 0} (next : P → Walk P B) (met : Met P) (y : B × M
   pub rest : next keyring (with_plugs left met) ≡ Ok y
 
 used_by : {P B : Type 0} (name : List ℕ) (found : Option (P × List (Plug P))) (next : P → Walk P B) (met : Met P) (y : B × Met P) → taken name met.plugs ≡ found
-    → then_walk (used_of name met found) next ≡ Ok y → Used next met y
+    → then_walk (plug_used name met found) next ≡ Ok y → Used next met y
 used_by name (Some found) next met y is e = record { keyring = found.0; left = found.1; fewer = fewer name met.plugs found is; rest = e }
 used_by name None next met y is e = absurd cc
 

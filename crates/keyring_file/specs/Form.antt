@@ -3,7 +3,8 @@ use Rattle.std.specs.Prelude.{◌≡◌, ◌≤◌, ℕ, Bool, true, false, ◌+
 use Rattle.std.specs.Prelude.{length, codes, Option, Some, None, is_some, option_map, if◌then◌else◌}
 use Rattle.serde_json.specs.Data.{Data, Items, no_items, item}
 use Rattle.serde_json.specs.Find.{get, as_bool, as_str, as_array}
-use Rattle.json_values.specs.Values.{◌>>=◌, ◌>>◌, provided, count, member_count, number_at, text_at}
+use Rattle.json_values.specs.Values.{◌>>=◌, ◌>>◌, provided, count, member_count, member_number}
+use Rattle.json_values.specs.Values.{text_at}
 use Rattle.keyring_file.specs.declared.form.Version.{Version}
 use Rattle.keyring_file.specs.declared.form.Version.TheVariants.{One, Two}
 
@@ -91,7 +92,7 @@ version_of n = if n == 1 then Some One else if n == 2 then Some Two else None
 unfoldable pub ring_of : Data → Option (Version × Data)
 ring_of d = do
   provided (member_count d == 2)
-  version ← number_at (codes "version") d >>= version_of
+  version ← member_number (codes "version") d >>= version_of
   ring ← get (codes "ring") d
   Some (version, ring)
 

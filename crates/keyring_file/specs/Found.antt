@@ -66,9 +66,9 @@ IsIndexOf name plugs None = taken name plugs ≡ None
 
 -- the first keyring of the name, and the plugs that are left; or no plug has the name, and all are
 -- left
-abbrev pub Takes : {P : Type 0} → List ℕ → List (Plug P) → List (Plug P) → Option P → Type 0
-Takes name old new (Some keyring) = taken name old ≡ Some (keyring, new)
-Takes name old new None = (taken name old ≡ None) × (new ≡ old)
+abbrev pub TakesPlug : {P : Type 0} → List ℕ → List (Plug P) → List (Plug P) → Option P → Type 0
+TakesPlug name old new (Some keyring) = taken name old ≡ Some (keyring, new)
+TakesPlug name old new None = (taken name old ≡ None) × (new ≡ old)
 
 -- ---- the walk
 
@@ -82,16 +82,16 @@ met walk = record {
 }
 
 -- this value, and what is met then; or this refusal. Want of memory may come at any time.
-abbrev pub Gives : {P A B : Type 0} → (A → B) → Result A ReadError → Walk P
+abbrev pub WalkGives : {P A B : Type 0} → (A → B) → Result A ReadError → Walk P
     → Result (B × Met P) FileRefusal → Type 0
-Gives means (Ok x) now reading = reading ≡ Ok (means x, met now)
-Gives means (Err (File refusal)) now reading = reading ≡ Err refusal
-Gives means (Err Memory) now reading = Unit {0}
+WalkGives means (Ok x) now reading = reading ≡ Ok (means x, met now)
+WalkGives means (Err (File refusal)) now reading = reading ≡ Err refusal
+WalkGives means (Err Memory) now reading = Unit {0}
 
 -- the same without a value
-abbrev pub GivesNothing : {P A : Type 0} → Result A ReadError → Walk P
+abbrev pub WalkGivesNothing : {P A : Type 0} → Result A ReadError → Walk P
     → Result (Unit {0} × Met P) FileRefusal → Type 0
-GivesNothing result now reading = Gives (λ _. tt) result now reading
+WalkGivesNothing result now reading = WalkGives (λ _. tt) result now reading
 
 -- the keyring of this key; only memory may be wanting
 abbrev pub IsKeyring : WrapKeyValue → Result WrapKeyValue ReadError → Type 0

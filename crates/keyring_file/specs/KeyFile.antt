@@ -11,7 +11,7 @@ use Rattle.multi_keyring.specs.Forest.{Forest, Nil, RawThen}
 use Rattle.multi_keyring.specs.Nodes.{forest}
 use Rattle.json_values.specs.declared.errors.ReadError.{ReadError}
 use Rattle.json_values.specs.declared.errors.ReadError.TheVariants.{File, Memory}
-use Rattle.json_values.specs.Values.{value_of}
+use Rattle.json_values.specs.Values.{json_value}
 use Rattle.keyring_file.specs.declared.plugs.Plug.{Plug}
 use Rattle.keyring_file.specs.declared.form.Version.{Version}
 use Rattle.keyring_file.specs.KeyLine.{key_line}
@@ -41,14 +41,15 @@ only_tree (Ok read) = Ok read.0
 only_tree (Err refusal) = Err refusal
 
 -- before the first node
-abbrev pub start : {P : Type 0} → List (Plug P) → Met P
-start plugs = record { nodes = 0; leaves = 0; keys = []; plugs = plugs }
+abbrev pub nothing_met : {P : Type 0} → List (Plug P) → Met P
+nothing_met plugs = record { nodes = 0; leaves = 0; keys = []; plugs = plugs }
 
 -- K2, at the file's own place, where the file has another form than {"version":1,"ring":NODE}, with
 -- 1 or 2; then what its node means, which may have 8 levels
 abbrev pub node_tree : {P : Type 0} → (P → ℕ) → List (Plug P) → Option (Version × Data)
     → Result (Forest P) FileRefusal
-node_tree wraps plugs (Some (version, node)) = only_tree (tree wraps version 8 node (start plugs))
+node_tree wraps plugs (Some (version, node)) =
+    only_tree (tree wraps version 8 node (nothing_met plugs))
 node_tree wraps plugs None = Err (BadShape 0)
 
 -- K1, where the file is no JSON
@@ -62,7 +63,7 @@ json_tree wraps plugs None = Err NotJson
 unfoldable pub tree_of : {P : Type 0} → (wraps : P → ℕ) → (bytes : List ℕ) → (plugs : List (Plug P))
     → Result (Forest P) FileRefusal
 tree_of wraps bytes plugs =
-    if is_json bytes then json_tree wraps plugs (value_of bytes) else line_tree (key_line bytes)
+    if is_json bytes then json_tree wraps plugs (json_value bytes) else line_tree (key_line bytes)
 
 -- This tree, or this refusal; want of memory may come at any time.
 abbrev pub FileAnswers : {P : Type 0} → Result (Node P) ReadError → Result (Forest P) FileRefusal

@@ -43,10 +43,10 @@ key_of_parts namespace name digits =
     else key_with namespace name (decode_sized digits 32)
 
 -- K2, where there are not exactly three parts
-abbrev pub key_in : List (List ℕ) → Result WrapKeyValue FileRefusal
-key_in (namespace ∷ name ∷ digits ∷ []) = key_of_parts namespace name digits
-key_in others = Err (BadShape 1)
+abbrev pub key_in_parts : List (List ℕ) → Result WrapKeyValue FileRefusal
+key_in_parts (namespace ∷ name ∷ digits ∷ []) = key_of_parts namespace name digits
+key_in_parts others = Err (BadShape 1)
 
 -- K2, where the bytes are not UTF-8
 unfoldable pub key_line : List ℕ → Result WrapKeyValue FileRefusal
-key_line bytes = if is_utf8 bytes then key_in (parts_in bytes) else Err (BadShape 1)
+key_line bytes = if is_utf8 bytes then key_in_parts (parts_in bytes) else Err (BadShape 1)

@@ -16,7 +16,7 @@ use Rattle.multi_keyring.specs.Tree.{node_leaves}
 use Rattle.keyring_file.specs.declared.plugs.Plug.{Plug}
 use Rattle.keyring_file.specs.Counts.{leaves_of, raw_keys, AreOfOneKey}
 use Rattle.keyring_file.specs.KeyFile.{is_json, tree_of}
-use Rattle.json_values.specs.Values.{number_at}
+use Rattle.json_values.specs.Values.{member_number}
 use Rattle.keyring_file.specs.Migrate.{migration, IsFileOf}
 use Rattle.keyring_file.specs.Retired.{retired_in}
 use Rattle.keyring_file.specs.RawNodes.{file_nodes, is_raw}
@@ -70,7 +70,7 @@ abbrev pub MigrationKeepsTrees : Type 0 → Type 0
 MigrationKeepsTrees P =
     (wraps : P → ℕ) (plugs : List (Plug P)) (retire : Option ℕ) (bytes new : List ℕ) (d : Data)
     → migration retire bytes ≡ Ok d → IsFileOf new d
-    → (number_at (codes "version") d ≡ Some 2)
+    → (member_number (codes "version") d ≡ Some 2)
     × (tree_of wraps new plugs ≡ retired_in retire (tree_of wraps bytes plugs))
 
 -- The answer where the node of this number is to be retired, from the answer without it: a file,

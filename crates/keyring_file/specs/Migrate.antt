@@ -15,13 +15,14 @@ use Rattle.esdk_fields.specs.declared.refusals.FileRefusal.TheVariants.{NotRaw}
 use Rattle.keyring_trait.specs.Wrapping.{WrapKeyValue}
 use Rattle.json_values.specs.declared.errors.ReadError.{ReadError}
 use Rattle.json_values.specs.declared.errors.ReadError.TheVariants.{File, Memory}
-use Rattle.json_values.specs.Values.{value_of}
+use Rattle.json_values.specs.Values.{json_value}
 use Rattle.keyring_file.specs.declared.form.Version.{Version}
 use Rattle.keyring_file.specs.KeyLine.{key_line}
-use Rattle.keyring_file.specs.KeyFile.{is_json, start}
+use Rattle.keyring_file.specs.KeyFile.{is_json, nothing_met}
 use Rattle.keyring_file.specs.Form.{Form, RawForm, PlugForm, MultiForm, form_of, ring_of}
 use Rattle.keyring_file.specs.Form.{lists_children}
-use Rattle.keyring_file.specs.Walk.{Met, ◌>>=◌, ◌>>◌, Walk, done, or_refuse, numbered, counted}
+use Rattle.keyring_file.specs.Walk.{Met, ◌>>=◌, ◌>>◌, Walk, walk_done, walk_or_refuse}
+use Rattle.keyring_file.specs.Walk.{next_node_number, count_leaves}
 use Rattle.keyring_file.specs.Leaves.{raw_key}
 use Rattle.keyring_file.specs.Plain.{IsPlainObject}
 
@@ -59,8 +60,8 @@ multi_node generator children =
     (member_if (codes "children") children (member_if (codes "generator") generator no_members)))
 
 -- {"ring":NODE,"version":2}
-abbrev pub file_of : Data → Data
-file_of node =
+abbrev pub version_2_file : Data → Data
+version_2_file node =
     object (member (codes "ring") node (member (codes "version") (number (unsigned 2)) no_members))
 
 -- the members, with this value, if there is one, at the name
@@ -82,19 +83,19 @@ list_if false ds = None
 -- these nodes in version 2, and whether the raw key that is to be retired is among them
 unfoldable pub migrated_row : {P : Type 0} → (Data → Walk P (Data × Bool)) → Items
     → Walk P (Items × Bool)
-migrated_row migrated no_items = done (no_items, false)
+migrated_row migrated no_items = walk_done (no_items, false)
 migrated_row migrated (item d ds) = do
   first ← migrated d
   others ← migrated_row migrated ds
-  done (item first.0 others.0, first.1 || others.1)
+  walk_done (item first.0 others.0, first.1 || others.1)
 
 -- the same of a node that may be absent
 abbrev pub migrated_optional : {P : Type 0} → (Data → Walk P (Data × Bool)) → Option Data
     → Walk P (Option Data × Bool)
 migrated_optional migrated (Some d) = do
   node ← migrated d
-  done (Some node.0, node.1)
-migrated_optional migrated None = done (None, false)
+  walk_done (Some node.0, node.1)
+migrated_optional migrated None = walk_done (None, false)
 
 -- A multi-keyring. A list of children stays absent where it is absent.
 unfoldable pub migrated_multi : {P : Type 0} → (Data → Walk P (Data × Bool)) → Bool → Option Data
@@ -102,7 +103,7 @@ unfoldable pub migrated_multi : {P : Type 0} → (Data → Walk P (Data × Bool)
 migrated_multi migrated listed generator children = do
   first ← migrated_optional migrated generator
   others ← migrated_row migrated children
-  done (multi_node first.0 (list_if listed others.0), first.1 || others.1)
+  walk_done (multi_node first.0 (list_if listed others.0), first.1 || others.1)
 
 -- A raw key is refused as in a tree; a keyring that is handed over counts as one leaf, whether
 -- there is one of its name or not.
@@ -110,10 +111,10 @@ abbrev pub migrated_form : {P : Type 0} → Option ℕ → (Data → Walk P (Dat
     → Walk P (Data × Bool)
 migrated_form retire migrated place listed (RawForm namespace name text retired) = do
   raw_key place namespace name text
-  done (raw_node namespace name text (is_at place retire || retired), is_at place retire)
+  walk_done (raw_node namespace name text (is_at place retire || retired), is_at place retire)
 migrated_form retire migrated place listed (PlugForm name) = do
-  counted 1
-  done (plug_node name, false)
+  count_leaves 1
+  walk_done (plug_node name, false)
 migrated_form retire migrated place listed (MultiForm generator children) =
     migrated_multi migrated listed generator children
 
@@ -122,20 +123,20 @@ migrated_form retire migrated place listed (MultiForm generator children) =
 unfoldable pub migrated : {P : Type 0} → Option ℕ → Version → (levels : ℕ) → Data
     → Walk P (Data × Bool)
 migrated retire version zero d = do
-  place ← numbered
-  form ← or_refuse (BadShape place) (form_of version d)
-  or_refuse TooDeep None
+  place ← next_node_number
+  form ← walk_or_refuse (BadShape place) (form_of version d)
+  walk_or_refuse TooDeep None
 migrated retire version (suc levels) d = do
-  place ← numbered
-  form ← or_refuse (BadShape place) (form_of version d)
+  place ← next_node_number
+  form ← walk_or_refuse (BadShape place) (form_of version d)
   migrated_form retire (migrated retire version levels) place (lists_children d) form
 
 -- ---- the whole file
 
 -- the file of this node; K11, where the raw key that is to be retired isn't in it
 abbrev pub file_with : Option ℕ → Data → Bool → Result Data FileRefusal
-file_with None node found = Ok (file_of node)
-file_with (Some n) node true = Ok (file_of node)
+file_with None node found = Ok (version_2_file node)
+file_with (Some n) node true = Ok (version_2_file node)
 file_with (Some n) node false = Err (NotRaw n)
 
 abbrev pub file_walked : {P : Type 0} → Option ℕ → Result ((Data × Bool) × Met P) FileRefusal
@@ -146,7 +147,7 @@ file_walked retire (Err refusal) = Err refusal
 -- K2, at the file's own place, where the file has no ring
 abbrev pub ring_migration : Option ℕ → Option (Version × Data) → Result Data FileRefusal
 ring_migration retire (Some (version, node)) =
-    file_walked retire (migrated retire version 8 node (start {P = Unit {0}} []))
+    file_walked retire (migrated retire version 8 node (nothing_met {P = Unit {0}} []))
 ring_migration retire None = Err (BadShape 0)
 
 -- K1, where the file is no JSON
@@ -165,7 +166,7 @@ line_migration retire (Err refusal) = Err refusal
 -- named; or the first refusal.
 unfoldable pub migration : Option ℕ → List ℕ → Result Data FileRefusal
 migration retire bytes =
-    if is_json bytes then json_migration retire (value_of bytes)
+    if is_json bytes then json_migration retire (json_value bytes)
     else line_migration retire (key_line bytes)
 
 -- The bytes are the compact text of this value and a line feed, a JSON file that is read as the
@@ -173,13 +174,13 @@ migration retire bytes =
 pub record IsFileOf (bytes : List ℕ) (d : Data) : Type 0 where
   pub text : bytes ≡ compact_text d ++ 10 ∷ []
   pub json : is_json bytes ≡ true
-  pub value : value_of bytes ≡ Some d
+  pub value : json_value bytes ≡ Some d
 
 -- This value, which can be written, or this refusal; want of memory may come at any time.
-abbrev pub MakesFile : Result Value ReadError → Result Data FileRefusal → Type 0
-MakesFile (Ok file) reading = (reading ≡ Ok (view file)) × IsPlainObject (view file)
-MakesFile (Err (File refusal)) reading = reading ≡ Err refusal
-MakesFile (Err Memory) reading = Unit {0}
+abbrev pub MakesKeyringFile : Result Value ReadError → Result Data FileRefusal → Type 0
+MakesKeyringFile (Ok file) reading = (reading ≡ Ok (view file)) × IsPlainObject (view file)
+MakesKeyringFile (Err (File refusal)) reading = reading ≡ Err refusal
+MakesKeyringFile (Err Memory) reading = Unit {0}
 
 -- the file of this value, or this refusal
 abbrev pub Migrates : Result (List ℕ) ReadError → Result Data FileRefusal → Type 0

@@ -3,7 +3,7 @@
 use Rattle.std.specs.Prelude.{ℕ, zero, suc, Bool, true, false, List, [], ◌∷◌, ◌++◌, slice_index_or}
 use Rattle.std.specs.Prelude.{Option, Some, None, if◌then◌else◌}
 use Rattle.serde_json.specs.Data.{Data, Items, no_items, item}
-use Rattle.json_values.specs.Values.{value_of}
+use Rattle.json_values.specs.Values.{json_value}
 use Rattle.keyring_file.specs.declared.form.Version.{Version}
 use Rattle.keyring_file.specs.Form.{Form, RawForm, PlugForm, MultiForm, form_of, ring_of}
 use Rattle.keyring_file.specs.KeyFile.{is_json}
@@ -40,7 +40,7 @@ json_nodes None = []
 
 -- Of the nodes of a file: whether each is a raw key. A key line is one.
 unfoldable pub file_nodes : List ℕ → List Bool
-file_nodes bytes = if is_json bytes then json_nodes (value_of bytes) else true ∷ []
+file_nodes bytes = if is_json bytes then json_nodes (json_value bytes) else true ∷ []
 
 -- The node of this number, counted from 1, is a raw key.
 abbrev pub is_raw : ℕ → List Bool → Bool

@@ -5,7 +5,7 @@ use Rattle.keyring_file.specs.Walk.{Met}
 
 -- What was met where a node may have so many levels: of each leaf at most its 8 levels, and the
 -- nodes above this one.
-pub record HasRoom {P : Type 0} (levels : ℕ) (met : Met P) : Type 0 where
+pub record LevelsHaveRoom {P : Type 0} (levels : ℕ) (met : Met P) : Type 0 where
   pub few : levels ≤ 8
   pub leaves : met.leaves ≤ 64
   pub keys : length met.keys ≤ met.leaves

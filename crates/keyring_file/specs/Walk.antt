@@ -38,26 +38,26 @@ abbrev pub ◌>>◌ : {P A B : Type 0} → Walk P A → Walk P B → Walk P B
 (walk >> next) met = then_walk (walk met) (λ _. next)
 
 -- this value, and nothing more is met
-abbrev pub done : {P A : Type 0} → A → Walk P A
-done x met = Ok (x, met)
+abbrev pub walk_done : {P A : Type 0} → A → Walk P A
+walk_done x met = Ok (x, met)
 
 -- this value, if there is one; else this refusal
-abbrev pub or_refuse : {P A : Type 0} → FileRefusal → Option A → Walk P A
-or_refuse refusal (Some x) met = Ok (x, met)
-or_refuse refusal None met = Err refusal
+abbrev pub walk_or_refuse : {P A : Type 0} → FileRefusal → Option A → Walk P A
+walk_or_refuse refusal (Some x) met = Ok (x, met)
+walk_or_refuse refusal None met = Err refusal
 
 -- this refusal, if the test says so
-abbrev pub refuse_if : {P : Type 0} → Bool → FileRefusal → Walk P (Unit {0})
-refuse_if true refusal met = Err refusal
-refuse_if false refusal met = Ok (tt, met)
+abbrev pub walk_refuse_if : {P : Type 0} → Bool → FileRefusal → Walk P (Unit {0})
+walk_refuse_if true refusal met = Err refusal
+walk_refuse_if false refusal met = Ok (tt, met)
 
 -- one more node: its number
-abbrev pub numbered : {P : Type 0} → Walk P ℕ
-numbered met = Ok (met.nodes + 1, record met { nodes = met.nodes + 1 })
+abbrev pub next_node_number : {P : Type 0} → Walk P ℕ
+next_node_number met = Ok (met.nodes + 1, record met { nodes = met.nodes + 1 })
 
 -- so many leaves more. K7 where the leaves so far are over 64
-unfoldable pub counted : {P : Type 0} → ℕ → Walk P (Unit {0})
-counted n met =
+unfoldable pub count_leaves : {P : Type 0} → ℕ → Walk P (Unit {0})
+count_leaves n met =
     if nat_lt 64 (met.leaves + n) then Err TooManyLeaves
     else Ok (tt, record met { leaves = met.leaves + n })
 
@@ -73,11 +73,11 @@ kept w met =
     if list_any (is_another_key w) met.keys then Err (ClashingKeys w.namespace w.name)
     else Ok (tt, record met { keys = met.keys ++ w ∷ [] })
 
-abbrev pub used_of : {P : Type 0} → List ℕ → Met P → Option (P × List (Plug P))
+abbrev pub plug_used : {P : Type 0} → List ℕ → Met P → Option (P × List (Plug P))
     → Result (P × Met P) FileRefusal
-used_of name met (Some found) = Ok (found.0, record met { plugs = found.1 })
-used_of name met None = Err (NoSuchPlug name)
+plug_used name met (Some found) = Ok (found.0, record met { plugs = found.1 })
+plug_used name met None = Err (NoSuchPlug name)
 
 -- the first keyring of this name that is left. K8 where there is none
 unfoldable pub used : {P : Type 0} → List ℕ → Walk P P
-used name met = used_of name met (taken name met.plugs)
+used name met = plug_used name met (taken name met.plugs)

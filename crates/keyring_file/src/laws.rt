@@ -2,7 +2,8 @@
 //! for each type of keyrings that are handed over.
 
 ghost use Rattle.keyring_file.specs.Laws.{ReadsKeyLines, WrittenLinesAreRead, TreesAreSmall};
-ghost use Rattle.keyring_file.specs.Laws.{RawKeysAgree, MigrationKeepsTrees, RetiresRawKeys, LeavesAreFew};
+ghost use Rattle.keyring_file.specs.Laws.{RawKeysAgree, MigrationKeepsTrees, RetiresRawKeys};
+ghost use Rattle.keyring_file.specs.Laws.{LeavesAreFew};
 
 /// A file that is no JSON file is read as one raw key exactly where it is that key's line.
 pub fn key_lines_are_read<P>()

@@ -3,10 +3,10 @@
 ghost use Rattle.std.specs.Prelude.{IfOk};
 ghost use Rattle.serde_json.specs.View.{view};
 ghost use Rattle.keyring_file.specs.KeyLine.{key_line};
-ghost use Rattle.json_values.specs.Values.{value_of};
+ghost use Rattle.json_values.specs.Values.{json_value};
 ghost use Rattle.keyring_file.specs.Plain.{IsPlain, IsPlainObject};
 ghost use Rattle.keyring_file.specs.Migrate.{migration, json_migration, line_migration, file_with};
-ghost use Rattle.keyring_file.specs.Migrate.{Migrates, IsFileOf, MakesFile};
+ghost use Rattle.keyring_file.specs.Migrate.{Migrates, IsFileOf, MakesKeyringFile};
 
 use crate::form::ring_of;
 use crate::key_file::{LEVELS, is_json};
@@ -41,7 +41,7 @@ pub fn migrate(alloc: Global, bytes: &[u8], retire: Option<u32>) -> Result<Blob,
 /// The value of a keyring file in version 2.
 #[tactic(auto, unfolding(crate::specs::Migrate::migration))]
 fn migrated_file(alloc: Global, bytes: &[u8], retire: Option<u32>) -> Result<Value, ReadError>
-    ensures { MakesFile result (migration retire bytes.now) }
+    ensures { MakesKeyringFile result (migration retire bytes.now) }
 {
     if is_json(bytes) {
         migrated_json(alloc, bytes, retire)
@@ -52,7 +52,7 @@ fn migrated_file(alloc: Global, bytes: &[u8], retire: Option<u32>) -> Result<Val
 
 /// The value of a JSON file in version 2.
 fn migrated_json(alloc: Global, bytes: &[u8], retire: Option<u32>) -> Result<Value, ReadError>
-    ensures { MakesFile result (json_migration retire (value_of bytes.now)) }
+    ensures { MakesKeyringFile result (json_migration retire (json_value bytes.now)) }
 {
     let file = value_of(alloc, bytes)?;
     let Some((version, node)) = ring_of(&file) else {
@@ -65,7 +65,7 @@ fn migrated_json(alloc: Global, bytes: &[u8], retire: Option<u32>) -> Result<Val
 
 /// The value of a file of the one raw key of a key line.
 fn migrated_line(alloc: Global, bytes: &[u8], retire: Option<u32>) -> Result<Value, ReadError>
-    ensures { MakesFile result (line_migration retire (key_line bytes.now)) }
+    ensures { MakesKeyringFile result (line_migration retire (key_line bytes.now)) }
 {
     match key_line(bytes) {
         Ok(line) => {
@@ -86,7 +86,7 @@ fn file_with(
     found: bool,
 ) -> Result<Value, ReadError>
     requires { IsPlain 126 (view node) }
-    ensures { MakesFile result (file_with retire (view node) found) }
+    ensures { MakesKeyringFile result (file_with retire (view node) found) }
 {
     match retire {
         Some(number) => {

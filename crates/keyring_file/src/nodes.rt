@@ -3,7 +3,8 @@
 
 ghost use Rattle.std.specs.Prelude.{◌≡◌, option_map, IfOk, OnOk};
 ghost use Rattle.serde_json.specs.View.{view, members_view};
-ghost use Rattle.keyring_file.specs.Migrate.{raw_node, plug_node, multi_node, put_if, file_of};
+ghost use Rattle.keyring_file.specs.Migrate.{raw_node, plug_node, multi_node, put_if};
+ghost use Rattle.keyring_file.specs.Migrate.{version_2_file};
 
 use serde_json::{Map, Value, json};
 use std::alloc::{AllocError, Global};
@@ -69,7 +70,7 @@ fn put_if(
 
 /// The file of this node.
 pub(crate) fn file_of(alloc: Global, node: Value) -> Result<Value, AllocError>
-    ensures { IfOk result (λ file. view file ≡ file_of (view node)) }
+    ensures { IfOk result (λ file. view file ≡ version_2_file (view node)) }
 {
     let mut file = Map::new(alloc);
     serde_json::put(&mut file, alloc, "ring", node)?;

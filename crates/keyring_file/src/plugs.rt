@@ -1,6 +1,6 @@
 //! Keyrings that are handed over under names.
 
-ghost use Rattle.keyring_file.specs.Found.{IsIndexOf, Takes};
+ghost use Rattle.keyring_file.specs.Found.{IsIndexOf, TakesPlug};
 
 use esdk_fields::Text;
 
@@ -16,7 +16,7 @@ pub struct Plug<P> {
 /// Takes the first keyring of this name out of the plugs. None exactly where there is none, and
 /// then all are left.
 pub(crate) fn take<P>(plugs: &mut Vec<Plug<P>>, name: &str) -> Option<P>
-    ensures { Takes name.now plugs.old.items plugs.new.items result }
+    ensures { TakesPlug name.now plugs.old.items plugs.new.items result }
 {
     let index = index_of(plugs, name)?;
     Some(plugs.remove(index).keyring)

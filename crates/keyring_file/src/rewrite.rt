@@ -6,7 +6,7 @@ ghost use Rattle.keyring_file.specs.Room.{HasSpace};
 ghost use Rattle.keyring_file.specs.Form.{IsFit};
 ghost use Rattle.keyring_file.specs.Migrate.{migrated, migrated_form, migrated_multi};
 ghost use Rattle.keyring_file.specs.Migrate.{migrated_optional, migrated_row, is_at, list_if};
-ghost use Rattle.keyring_file.specs.Found.{met, Gives, form_value};
+ghost use Rattle.keyring_file.specs.Found.{met, WalkGives, form_value};
 
 use crate::form::{Form, Version, form_of, lists_children};
 use crate::nodes::{multi_node, plug_node, raw_node};
@@ -37,7 +37,7 @@ impl<P> Walk<P> {
         levels: u32,
     ) -> Result<(Value, bool), ReadError>
         requires { HasSpace levels (met self.old) }
-        ensures { Gives (λ made. (view made.0, made.1)) result self.new
+        ensures { WalkGives (λ made. (view made.0, made.1)) result self.new
             (migrated plan.retire plan.version levels (view node.now) (met self.old)) }
     {
         self.nodes += 1;
@@ -63,7 +63,7 @@ impl<P> Walk<P> {
         levels: u32,
     ) -> Result<(Value, bool), ReadError>
         requires { HasSpace levels (met self.old) }
-        ensures { Gives (λ made. (view made.0, made.1)) result self.new
+        ensures { WalkGives (λ made. (view made.0, made.1)) result self.new
             (migrated_form plan.retire (migrated plan.retire plan.version levels) self.old.nodes
             listed (form_value form.entry) (met self.old)) }
     {
@@ -104,7 +104,7 @@ impl<P> Walk<P> {
         levels: u32,
     ) -> Result<(Value, bool), ReadError>
         requires { HasSpace levels (met self.old) }
-        ensures { Gives (λ made. (view made.0, made.1)) result self.new
+        ensures { WalkGives (λ made. (view made.0, made.1)) result self.new
             (migrated_multi (migrated plan.retire plan.version levels) listed
             (option_map (λ node. view node.now) generator.entry) (items_view children.now)
             (met self.old)) }
@@ -125,7 +125,7 @@ impl<P> Walk<P> {
         levels: u32,
     ) -> Result<(Option<Value>, bool), ReadError>
         requires { HasSpace levels (met self.old) }
-        ensures { Gives (λ made. (option_map view made.0, made.1)) result self.new
+        ensures { WalkGives (λ made. (option_map view made.0, made.1)) result self.new
             (migrated_optional (migrated plan.retire plan.version levels)
             (option_map (λ node. view node.now) node.entry) (met self.old)) }
     {
@@ -148,7 +148,7 @@ impl<P> Walk<P> {
         levels: u32,
     ) -> Result<(Vec<Value>, bool), ReadError>
         requires { HasSpace levels (met self.old) }
-        ensures { Gives (λ made. (items_view made.0.items, made.1)) result self.new
+        ensures { WalkGives (λ made. (items_view made.0.items, made.1)) result self.new
             (migrated_row (migrated plan.retire plan.version levels) (items_view nodes.now)
             (met self.old)) }
     {

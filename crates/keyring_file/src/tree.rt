@@ -5,9 +5,9 @@ ghost use Rattle.std.specs.Prelude.{IfOk};
 ghost use Rattle.serde_json.specs.View.{view, items_view};
 ghost use Rattle.multi_keyring.specs.Nodes.{forest};
 ghost use Rattle.keyring_file.specs.Form.{IsFit, has_node};
-ghost use Rattle.keyring_file.specs.Room.{HasRoom};
+ghost use Rattle.keyring_file.specs.Room.{LevelsHaveRoom};
 ghost use Rattle.keyring_file.specs.Tree.{tree, formed, multi, optional, row};
-ghost use Rattle.keyring_file.specs.Found.{met, Gives, wraps_of, form_value};
+ghost use Rattle.keyring_file.specs.Found.{met, WalkGives, wraps_of, form_value};
 
 use crate::form::{Form, Version, form_of};
 use crate::walk::Walk;
@@ -30,8 +30,8 @@ impl<P: Keyring> Walk<P> {
         node: &Value,
         levels: u32,
     ) -> Result<Node<P>, ReadError>
-        requires { HasRoom levels (met self.old) }
-        ensures { Gives (λ node. forest (node ∷ [])) result self.new
+        requires { LevelsHaveRoom levels (met self.old) }
+        ensures { WalkGives (λ node. forest (node ∷ [])) result self.new
             (tree (wraps_of P.meaning) version levels (view node.now) (met self.old)) }
     {
         self.nodes += 1;
@@ -54,10 +54,10 @@ impl<P: Keyring> Walk<P> {
         form: Form<'_>,
         levels: u32,
     ) -> Result<Node<P>, ReadError>
-        requires room { HasRoom levels (met self.old) }
+        requires room { LevelsHaveRoom levels (met self.old) }
         requires low { levels ≤ 7 }
         requires fit { IsFit (form_value form) }
-        ensures { Gives (λ node. forest (node ∷ [])) result self.new
+        ensures { WalkGives (λ node. forest (node ∷ [])) result self.new
             (formed (wraps_of P.meaning) (tree (wraps_of P.meaning) version levels) self.old.nodes
             (form_value form.entry) (met self.old)) }
     {
@@ -90,11 +90,11 @@ impl<P: Keyring> Walk<P> {
         children: &[Value],
         levels: u32,
     ) -> Result<Multi<P>, ReadError>
-        requires room { HasRoom levels (met self.old) }
+        requires room { LevelsHaveRoom levels (met self.old) }
         requires low { levels ≤ 7 }
         requires member { has_node (option_map (λ node. view node.now) generator)
             (items_view children.now) ≡ true }
-        ensures { Gives (λ multi. multi) result self.new
+        ensures { WalkGives (λ multi. multi) result self.new
             (multi (tree (wraps_of P.meaning) version levels)
             (option_map (λ node. view node.now) generator.entry) (items_view children.now)
             (met self.old)) }
@@ -116,8 +116,8 @@ impl<P: Keyring> Walk<P> {
         node: Option<&Value>,
         levels: u32,
     ) -> Result<Option<Node<P>>, ReadError>
-        requires { HasRoom levels (met self.old) }
-        ensures gives { Gives (λ node. forest (option_to_list node)) result self.new
+        requires { LevelsHaveRoom levels (met self.old) }
+        ensures gives { WalkGives (λ node. forest (option_to_list node)) result self.new
             (optional (tree (wraps_of P.meaning) version levels)
             (option_map (λ node. view node.now) node.entry) (met self.old)) }
         ensures there { IfOk result (λ found. is_some found ≡ is_some node.entry) }
@@ -137,8 +137,8 @@ impl<P: Keyring> Walk<P> {
         nodes: &[Value],
         levels: u32,
     ) -> Result<Vec<Node<P>>, ReadError>
-        requires { HasRoom levels (met self.old) }
-        ensures { Gives (λ trees. forest trees.items) result self.new
+        requires { LevelsHaveRoom levels (met self.old) }
+        ensures { WalkGives (λ trees. forest trees.items) result self.new
             (row (tree (wraps_of P.meaning) version levels) (items_view nodes.now) (met self.old)) }
     {
         let mut trees = Vec::new(alloc);

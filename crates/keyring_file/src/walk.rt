@@ -3,10 +3,10 @@
 ghost use Rattle.std.specs.Prelude.{◌≡◌, ◌≢◌, ◌≤◌, length, [], IfOk};
 ghost use Rattle.std.specs.List.{list_any};
 ghost use Rattle.raw_aes_keyring.specs.RawKey.{reserved_namespace};
-ghost use Rattle.keyring_file.specs.Walk.{is_another_key, counted, kept, used};
+ghost use Rattle.keyring_file.specs.Walk.{is_another_key, count_leaves, kept, used};
 ghost use Rattle.raw_aes_keyring.specs.Made.{MakesKeyring};
 ghost use Rattle.keyring_file.specs.Leaves.{wrap_key, raw_key, raw_leaf, plug_leaf};
-ghost use Rattle.keyring_file.specs.Found.{met, Gives, GivesNothing, IsKeyring, wraps_of};
+ghost use Rattle.keyring_file.specs.Found.{met, WalkGives, WalkGivesNothing, IsKeyring, wraps_of};
 
 use crate::base64_key::base64_key;
 use crate::key_line::RESERVED;
@@ -44,11 +44,11 @@ impl<P> Walk<P> {
     }
 
     /// So many leaves more. K7 `TooManyLeaves` exactly where there are over 64 then.
-    #[tactic(auto, unfolding(crate::specs::Walk::counted))]
+    #[tactic(auto, unfolding(crate::specs::Walk::count_leaves))]
     pub(crate) fn count(&mut self, leaves: u32) -> Result<(), ReadError>
         requires before { self.old.leaves ≤ 64 }
         requires more { leaves ≤ 64 }
-        ensures { GivesNothing result self.new (counted leaves (met self.old)) }
+        ensures { WalkGivesNothing result self.new (count_leaves leaves (met self.old)) }
     {
         if self.leaves + leaves > MOST_LEAVES {
             return Err(ReadError::File(FileRefusal::TooManyLeaves));
@@ -61,7 +61,7 @@ impl<P> Walk<P> {
     /// name, and is another.
     #[tactic(auto, unfolding(crate::specs::Walk::kept))]
     fn keep(&mut self, key: WrapKey) -> Result<(), ReadError>
-        ensures gives { GivesNothing result self.new (kept key (met self.old)) }
+        ensures gives { WalkGivesNothing result self.new (kept key (met self.old)) }
         ensures leaves { self.new.leaves ≡ self.old.leaves }
     {
         if has_clash(&self.keys, &key) {
@@ -74,7 +74,7 @@ impl<P> Walk<P> {
     /// The first keyring of this name that is left. K8 `NoSuchPlug` exactly where there is none.
     #[tactic(auto, unfolding(crate::specs::Walk::used))]
     fn take(&mut self, alloc: Global, name: &str) -> Result<P, ReadError>
-        ensures gives { Gives (λ p. p) result self.new (used name.now (met self.old)) }
+        ensures gives { WalkGives (λ p. p) result self.new (used name.now (met self.old)) }
         ensures leaves { self.new.leaves ≡ self.old.leaves }
     {
         match take(&mut self.plugs, name) {
@@ -95,7 +95,7 @@ impl<P> Walk<P> {
         text: &str,
     ) -> Result<[u8; 32], ReadError>
         requires { self.old.leaves ≤ 64 }
-        ensures gives { Gives (λ key. key) result self.new
+        ensures gives { WalkGives (λ key. key) result self.new
             (raw_key self.old.nodes namespace.now name.now text.now (met self.old)) }
         ensures unreserved { IfOk result (λ key. namespace.now ≢ reserved_namespace) }
     {
@@ -129,7 +129,7 @@ impl<P> Walk<P> {
         requires namespace { length namespace.now ≤ 1024 }
         requires name { length name.now ≤ 1024 }
         requires leaves { self.old.leaves ≤ 64 }
-        ensures { Gives (λ key. key) result self.new
+        ensures { WalkGives (λ key. key) result self.new
             (raw_leaf self.old.nodes namespace.now name.now text.now retired (met self.old)) }
     {
         let key = self.raw_key(alloc, namespace, name, text)?;
@@ -143,7 +143,7 @@ impl<P: Keyring> Walk<P> {
     #[tactic(auto, unfolding(crate::specs::Leaves::plug_leaf))]
     pub(crate) fn plug_leaf(&mut self, alloc: Global, name: &str) -> Result<P, ReadError>
         requires { self.old.leaves ≤ 64 }
-        ensures { Gives (λ p. p) result self.new (plug_leaf (wraps_of P.meaning) name.now
+        ensures { WalkGives (λ p. p) result self.new (plug_leaf (wraps_of P.meaning) name.now
             (met self.old)) }
     {
         let keyring = self.take(alloc, name)?;

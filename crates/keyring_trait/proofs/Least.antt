@@ -15,9 +15,10 @@ use Rattle.context_codec.specs.Parts.{holds}
 use Rattle.context_codec.specs.Join.{differs, clashes, mismatch}
 use Rattle.context_codec.specs.KeySet.{AreAscendingKeys}
 use Rattle.keyring_trait.specs.Unlocking.{missing_required}
-use Rattle.keyring_trait.specs.Laws.{IsLeastKey, IsMissing, HasTwoValues}
+use Rattle.keyring_trait.specs.Laws.{IsMissing, HasTwoValues}
 use Rattle.context_codec.proofs.Members.{Contains-head, Contains-tail, Contains-cases, Contains-nil}
 use Rattle.context_codec.proofs.Parts.{same_pair, found_pair}
+use Rattle.context_codec.specs.Laws.{IsLeastKey}
 
 -- ---- lists that ascend by a key
 

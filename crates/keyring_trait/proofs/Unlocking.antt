@@ -16,7 +16,7 @@ use Rattle.context_codec.specs.Parts.{holds, is_among, stored_of, only_of, joine
 use Rattle.keyring_trait.specs.Wrapping.{WrapKeyValue, first_some, unwrapped, IsOpened}
 use Rattle.context_codec.specs.Join.{differs, clashes, mismatch, too_long}
 use Rattle.keyring_trait.specs.Unlocking.{Unlocking, Unlocks, reserved_key, missing_required, reserved_stored, offences, opens_with, unless, unlock}
-use Rattle.keyring_trait.specs.Laws.{AreWrapped, IsEnough, AreGiven, IsUnlocked}
+use Rattle.keyring_trait.specs.Laws.{AreWrapped, IsEnough, AreGiven, IsUnlockedByKey}
 use Rattle.context_codec.proofs.Members.{Contains-filter, Contains-filter_back, none_found}
 use Rattle.keyring_trait.proofs.Wrapping.{unwrapped_key, unwraps_only_wraps}
 use Rattle.context_codec.proofs.Parts.{Ascends-filter, joined_parts, holds_own, holds_pair, same_pair, found_pair}
@@ -156,7 +156,7 @@ unlocked_parts None answer whole only key e = e
 unlocked_parts (Some fault) answer whole only key e = absurd cc
 
 pub unlocks_only_wraps : (stored given : List KeyValue) (entries : List Entry) (required : List (List ℕ)) (keys : List WrapKeyValue) (whole only : List KeyValue) (key : List ℕ)
-    → unlock stored entries given required keys ≡ Unlocks whole only key → IsUnlocked stored entries given keys whole only key
+    → unlock stored entries given required keys ≡ Unlocks whole only key → IsUnlockedByKey stored entries given keys whole only key
 unfolding unlock
 unlocks_only_wraps stored given entries required keys whole only key e =
     let w = whole_of stored given in

@@ -1,12 +1,14 @@
 -- What a keyring is to its callers, and what its calls answer.
 -- AWS Encryption SDK Specification, "Keyring Interface", OnEncrypt and OnDecrypt.
-use Rattle.std.specs.Prelude.{◌≡◌, ℕ, ◌+◌, ◌*◌, ◌≤◌, Bool, true, false, List, length, take, drop, ⊤, Option, Some, None, IfSome}
+use Rattle.std.specs.Prelude.{◌≡◌, ℕ, ◌+◌, ◌*◌, ◌≤◌, Bool, true, false, List, length, take, drop, ⊤}
+use Rattle.std.specs.Prelude.{Option, Some, None, IfSome}
 use Rattle.esdk_fields.specs.Counts.{Rose, Stayed}
 use Rattle.context_codec.specs.Context.{KeyValue}
 use Rattle.edk_codec.specs.Entry.{Entry}
 use Rattle.keyring_trait.specs.declared.ring_refusals.RingRefusal.{RingRefusal}
 use Rattle.keyring_trait.specs.declared.ring_refusals.RingError.{RingError}
-use Rattle.keyring_trait.specs.declared.ring_refusals.RingError.TheVariants.{Refused, KeyringFault, Memory}
+use Rattle.keyring_trait.specs.declared.ring_refusals.RingError.TheVariants.{Refused, KeyringFault}
+use Rattle.keyring_trait.specs.declared.ring_refusals.RingError.TheVariants.{Memory}
 use Rattle.keyring_trait.specs.Wrapping.{WrapKeyValue, unwrapped, made, ivs_of, IsOpened}
 
 -- The wrapping keys, retired or not, where the keyring tells them; how many entries it makes of a
@@ -44,9 +46,9 @@ wanted true wraps = 12 * wraps
 wanted false wraps = 32 + 12 * wraps
 
 -- the data key: the one handed over, or the first 32 bytes
-abbrev pub key_in : Option (List ℕ) → List ℕ → List ℕ
-key_in (Some key) random = key
-key_in None random = take 32 random
+abbrev pub data_key_in : Option (List ℕ) → List ℕ → List ℕ
+data_key_in (Some key) random = key
+data_key_in None random = take 32 random
 
 -- the bytes of the IVs
 abbrev pub ivs_in : Option (List ℕ) → List ℕ → List ℕ
@@ -62,7 +64,7 @@ pub record WrappedValue : Type 0 where
 -- keys are told, these are the wraps of it under those that aren't retired, in order.
 pub record Wraps (m : KeyringMeaning) (c : List KeyValue) (random : List ℕ)
     (handed : Option (List ℕ)) (wrapped : WrappedValue) : Type 0 where
-  pub key : wrapped.key ≡ key_in handed random
+  pub key : wrapped.key ≡ data_key_in handed random
   pub count : length wrapped.entries ≡ m.wraps
   pub told : IfSome m.keys (λ keys. wrapped.entries
       ≡ made keys c wrapped.key (ivs_of m.wraps (ivs_in handed random)))

@@ -1,8 +1,6 @@
 -- What the laws of this crate say of wrapping, unwrapping and unlocking.
-use Rattle.std.specs.Prelude.{◌≡◌, ◌≢◌, ◌↔◌, ◌≤◌, ℕ, ◌*◌, true, false, List, length, Option, Some, None, Contains}
-use Rattle.std.specs.Ordering.{nat_cmp}
-use Rattle.std.specs.declared.cmp.Ordering.TheVariants.{Less}
-use Rattle.std.specs.Cmp.Lexicographic.{slice_cmp}
+use Rattle.std.specs.Prelude.{◌≡◌, ◌≢◌, ◌↔◌, ◌≤◌, ℕ, ◌*◌, true, false, List, length, Option, Some}
+use Rattle.std.specs.Prelude.{None, Contains}
 use Rattle.esdk_fields.specs.Counts.{Stayed}
 use Rattle.esdk_fields.specs.declared.faults.Fault.TheVariants.{ContextMismatch, MissingRequired}
 use Rattle.context_codec.specs.Context.{KeyValue, IsAscending, IsContext}
@@ -10,9 +8,12 @@ use Rattle.context_codec.specs.Join.{mismatch}
 use Rattle.context_codec.specs.KeySet.{AreAscendingKeys}
 use Rattle.context_codec.specs.Split.{SpellsContext}
 use Rattle.edk_codec.specs.Entry.{Entry}
-use Rattle.context_codec.specs.Parts.{holds, is_among, stored_of, only_of, only_given, whole_of, stored_in}
+use Rattle.context_codec.specs.Parts.{holds, is_among, stored_of, only_of, only_given, whole_of}
+use Rattle.context_codec.specs.Parts.{stored_in}
+use Rattle.context_codec.specs.Laws.{IsLeastKey}
 use Rattle.keyring_trait.specs.Keyring.{KeyringMeaning, WrappedValue, Opens, Wraps, wanted}
-use Rattle.keyring_trait.specs.Wrapping.{WrapKeyValue, wrap, unwrap, unwrapped, active, made, ivs_of, IsWrap, IsOpened, AreIvs}
+use Rattle.keyring_trait.specs.Wrapping.{WrapKeyValue, wrap, unwrap, unwrapped, active, made}
+use Rattle.keyring_trait.specs.Wrapping.{ivs_of, IsWrap, IsOpened, AreIvs}
 use Rattle.keyring_trait.specs.Unlocking.{Unlocks, reserved_key, missing_required, unlock}
 
 -- ---- wrapping
@@ -157,7 +158,7 @@ UnlocksWhatWasStored = (writers readers : List WrapKeyValue) (c given : List Key
 
 -- What a reader unlocks is the whole context of stored and given pairs, and a data key that was
 -- wrapped over it under one of the reader's keys.
-pub record IsUnlocked (stored : List KeyValue) (entries : List Entry) (given : List KeyValue)
+pub record IsUnlockedByKey (stored : List KeyValue) (entries : List Entry) (given : List KeyValue)
     (keys : List WrapKeyValue) (whole only : List KeyValue) (key : List ℕ) : Type 0 where
   pub whole_is : whole ≡ whole_of stored given
   pub only_is : only ≡ only_given stored given
@@ -167,14 +168,9 @@ abbrev pub UnlocksOnlyWraps : Type 0
 UnlocksOnlyWraps = (stored given : List KeyValue) (entries : List Entry) (required : List (List ℕ))
     (keys : List WrapKeyValue) (whole only : List KeyValue) (key : List ℕ)
     → unlock stored entries given required keys ≡ Unlocks whole only key
-    → IsUnlocked stored entries given keys whole only key
+    → IsUnlockedByKey stored entries given keys whole only key
 
 -- ---- the keys that faults name
-
--- The key fits, and no key below it does.
-pub record IsLeastKey (Fits : List ℕ → Type 0) (key : List ℕ) : Type 0 where
-  pub fits : Fits key
-  pub least : (other : List ℕ) → Fits other → ¬ (slice_cmp nat_cmp other key ≡ Less)
 
 -- the key is required and not given
 pub record IsMissing (given : List KeyValue) (required : List (List ℕ))

@@ -1,7 +1,9 @@
 -- What a cryptographic materials manager is to its callers, and what its calls answer.
 -- AWS Encryption SDK Specification, "CMM Interface", Get Encryption Materials and Decrypt
 -- Materials.
-use Rattle.std.specs.Prelude.{◌≡◌, ℕ, ◌≤◌, ◌<◌, Bool, true, false, List, [], ◌∷◌, ◌++◌, length, take, drop, All, ⊤, Option, Some, None, option_map, find, nat_eq, codes, Result, MatchResult}
+use Rattle.std.specs.Prelude.{◌≡◌, ℕ, ◌≤◌, ◌<◌, Bool, true, false, List, [], ◌∷◌, ◌++◌, length}
+use Rattle.std.specs.Prelude.{take, drop, All, ⊤, Option, Some, None, option_map, find, nat_eq}
+use Rattle.std.specs.Prelude.{codes, Result, MatchResult}
 use Rattle.std.specs.List.{starts_with}
 use Rattle.esdk_fields.specs.Counts.{Rose, Stayed}
 use Rattle.esdk_fields.specs.declared.faults.Fault.{Fault}
@@ -23,7 +25,8 @@ use Rattle.keyring_trait.specs.Laws.{HasTwoValues}
 use Rattle.keyring_trait.specs.Materials.{EncMaterialsValue, DecMaterialsValue}
 use Rattle.keyring_trait.specs.Requests.{EncRequestValue, DecRequestValue, required_absent}
 use Rattle.keyring_trait.specs.Unlocking.{reserved_key, pair_offence}
-use Rattle.keyring_trait.specs.Wrapping.{WrapKeyValue, first_some, unwrapped, made, ivs_of, IsOpened, AreIvs}
+use Rattle.keyring_trait.specs.Wrapping.{WrapKeyValue, first_some, unwrapped, made, ivs_of}
+use Rattle.keyring_trait.specs.Wrapping.{IsOpened, AreIvs}
 
 -- How many entries it makes of a data key; what its keyrings refuse where no data key is there yet;
 -- how often it failed; whether it is steady, so that it never
@@ -136,7 +139,8 @@ pub record AreDrawn (wraps : ℕ) (tells : List WrapKeyValue → Type 0) (random
     (materials : EncMaterialsValue) : Type 0 where
   pub key : materials.key ≡ take 32 random
   pub entries : (keys : List WrapKeyValue) → tells keys
-      → materials.entries ≡ made keys materials.context materials.key (ivs_of wraps (drop 32 random))
+      → materials.entries ≡ made keys materials.context materials.key
+      (ivs_of wraps (drop 32 random))
 
 -- What a manager answers to a request with these random bytes: the context is the request's, and
 -- the keys that a reader has to give are the request's and maybe more; an exact manager adds those
@@ -192,8 +196,9 @@ pub record FindsMaterials (old new : ManagerNow) (request : DecRequestValue)
   pub unfaulted : old.exact → pair_offence request.stored request.given old.meaning.demands ≡ None
 
 -- the text of the whole context has so many bytes, which are too many
-abbrev pub IsTooLong : DecRequestValue → ℕ → Type 0
-IsTooLong request n = (n ≡ length (ctx_text (whole_of request.stored request.given))) × (65535 < n)
+abbrev pub ContextIsTooLong : DecRequestValue → ℕ → Type 0
+ContextIsTooLong request n =
+    (n ≡ length (ctx_text (whole_of request.stored request.given))) × (65535 < n)
 
 -- The fault stands in the pairs, or no told key opens an entry.
 abbrev pub FaultStands : (List WrapKeyValue → Type 0) → DecRequestValue → Fault → Type 0
@@ -201,7 +206,7 @@ FaultStands tells request faults.ReservedKey = holds request.stored reserved_key
 FaultStands tells request (faults.ContextMismatch key) =
     HasTwoValues request.stored request.given key
 FaultStands tells request (faults.MissingRequired key) = holds request.given key ≡ false
-FaultStands tells request (faults.ContextTooLong n) = IsTooLong request n
+FaultStands tells request (faults.ContextTooLong n) = ContextIsTooLong request n
 FaultStands tells request faults.NoKeyOpens = (keys : List WrapKeyValue) → tells keys
     → unwrapped keys request.entries (whole_of request.stored request.given) ≡ None
 FaultStands tells request fault = ⊥

@@ -28,4 +28,5 @@ AllHeld context keys = All (λ key. holds context key ≡ true) keys
 
 -- Q4: the first of these keys that is not in the context
 abbrev pub required_absent : List KeyValue → List (List ℕ) → Option Refusal
-required_absent context keys = option_map RequiredAbsent (find (λ key. not (holds context key)) keys)
+required_absent context keys =
+    option_map RequiredAbsent (find (λ key. not (holds context key)) keys)

@@ -2,7 +2,8 @@
 -- Encryption SDK Specification, "CMM Interface", Get Encryption Materials and Decrypt Materials.
 use Rattle.std.specs.Prelude.{◌≡◌, ℕ, List}
 use Rattle.keyring_trait.specs.declared.manager_errors.ManagerError.{ManagerError}
-use Rattle.keyring_trait.specs.Manager.{ManagerNow, GivesMaterials, GivesNone, FindsMaterials, FindsNone}
+use Rattle.keyring_trait.specs.Manager.{ManagerNow, GivesMaterials, GivesNone, FindsMaterials}
+use Rattle.keyring_trait.specs.Manager.{FindsNone}
 use Rattle.keyring_trait.specs.Materials.{DecMaterialsValue, EncMaterialsValue}
 use Rattle.keyring_trait.specs.Requests.{DecRequestValue, EncRequestValue}
 

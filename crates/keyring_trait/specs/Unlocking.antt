@@ -1,9 +1,11 @@
 -- What a reader makes of a header's stored pairs and entries, of the pairs that the caller gives,
 -- of the keys that it requires, and of its wrapping keys. AWS Encryption SDK Specification,
 -- "Default CMM" and "Required Encryption Context CMM", Decrypt Materials.
-use Rattle.std.specs.Prelude.{ℕ, Bool, not, List, [], ◌∷◌, Option, Some, None, option_map, find, if◌then◌else◌, codes}
+use Rattle.std.specs.Prelude.{ℕ, Bool, not, List, [], ◌∷◌, Option, Some, None, option_map, find}
+use Rattle.std.specs.Prelude.{if◌then◌else◌, codes}
 use Rattle.esdk_fields.specs.declared.faults.Fault.{Fault}
-use Rattle.esdk_fields.specs.declared.faults.Fault.TheVariants.{ReservedKey, MissingRequired, NoKeyOpens}
+use Rattle.esdk_fields.specs.declared.faults.Fault.TheVariants.{ReservedKey, MissingRequired}
+use Rattle.esdk_fields.specs.declared.faults.Fault.TheVariants.{NoKeyOpens}
 use Rattle.context_codec.specs.Context.{KeyValue}
 use Rattle.context_codec.specs.Join.{mismatch, too_long}
 use Rattle.edk_codec.specs.Entry.{Entry}

@@ -1,6 +1,8 @@
 -- Wrapping a data key under a raw AES key, and unwrapping it. AWS Encryption SDK Specification,
 -- "Raw AES Keyring", OnEncrypt and OnDecrypt; the cipher is AES-256 in GCM (NIST SP 800-38D).
-use Rattle.std.specs.Prelude.{◌≡◌, ℕ, zero, suc, ◌+◌, Bool, not, ◌&&◌, ◌==◌, List, [], ◌∷◌, ◌++◌, length, take, drop, filter, All, Contains, Option, None, if◌then◌else◌}
+use Rattle.std.specs.Prelude.{◌≡◌, ℕ, zero, suc, ◌+◌, Bool, not, ◌&&◌, ◌==◌, List, [], ◌∷◌, ◌++◌}
+use Rattle.std.specs.Prelude.{length, take, drop, filter, All, Contains, Option, None}
+use Rattle.std.specs.Prelude.{if◌then◌else◌}
 use Rattle.std.specs.Option.{option_or}
 use Rattle.std.specs.Str.{bytes_eq}
 use Rattle.cipher_spec.specs.Gcm.{sealed, opened}

@@ -1,10 +1,12 @@
 //! Keyrings: what wraps data keys, and unwraps them.
 
-ghost use Rattle.std.specs.Prelude.{◌≡◌, ◌≤◌, true, None, length, is_some, IfSome, IfOk, IfErr, OnOk};
+ghost use Rattle.std.specs.Prelude.{◌≡◌, ◌≤◌, true, None, length, is_some, IfSome, IfOk, IfErr};
+ghost use Rattle.std.specs.Prelude.{OnOk};
 ghost use Rattle.std.specs.Option.{option_copied};
 ghost use Rattle.esdk_fields.specs.Counts.{Stayed};
 ghost use Rattle.keyring_trait.specs.Wrapping.{active};
-ghost use Rattle.keyring_trait.specs.Keyring.{KeyringMeaning, KeyringGoes, refusal_with, wanted, Wraps, WrapCause, Opens, UnwrapCause};
+ghost use Rattle.keyring_trait.specs.Keyring.{KeyringMeaning, KeyringGoes, refusal_with, wanted};
+ghost use Rattle.keyring_trait.specs.Keyring.{Wraps, WrapCause, Opens, UnwrapCause};
 
 use crate::data_keys::DataKey;
 use crate::ring_refusals::{RingError, RingRefusal};

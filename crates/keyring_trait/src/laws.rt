@@ -1,7 +1,12 @@
 //! Laws about wrapping and unlocking. A law is a function that does nothing: its contract is what
 //! is proved.
 
-ghost use Rattle.keyring_trait.specs.Laws.{DrawsIvs, WrappedKeysComeBack, UnwrapsWraps, PassesOtherNamespaces, PassesOtherNames, UnwrapsTheKey, UnwrapsOnlyWraps, UnwrapsNone, WrapsWhatIsMade, UnlocksWhatWasStored, UnlocksOnlyWraps, NamesTheLeastMissing, NamesTheLeastMismatch, StoresTheSpelled};
+ghost use Rattle.keyring_trait.specs.Laws.{DrawsIvs, WrappedKeysComeBack, UnwrapsWraps};
+ghost use Rattle.keyring_trait.specs.Laws.{PassesOtherNamespaces, PassesOtherNames, UnwrapsTheKey};
+ghost use Rattle.keyring_trait.specs.Laws.{UnwrapsOnlyWraps, UnwrapsNone, WrapsWhatIsMade};
+ghost use Rattle.keyring_trait.specs.Laws.{UnlocksWhatWasStored, UnlocksOnlyWraps};
+ghost use Rattle.keyring_trait.specs.Laws.{NamesTheLeastMissing, NamesTheLeastMismatch};
+ghost use Rattle.keyring_trait.specs.Laws.{StoresTheSpelled};
 
 /// An entry is unwrapped to a data key exactly where it is a wrap of that data key, by the same key
 /// and over the same context.

@@ -6,7 +6,9 @@ ghost use Rattle.context_codec.specs.KeySet.{AreAscendingKeys};
 ghost use Rattle.keyring_trait.specs.declared.journal.JournalLine.{JournalLine};
 ghost use Rattle.keyring_trait.specs.declared.journal.Kind.TheVariants.{Seal, Unseal};
 ghost use Rattle.keyring_trait.specs.Wrapping.{WrapKeyValue, active};
-ghost use Rattle.keyring_trait.specs.Manager.{ManagerNow, Went, GivesMaterials, GivesNone, FindsMaterials, FindsNone, BearsOn, enc_served, dec_served};
+ghost use Rattle.keyring_trait.specs.Manager.{ManagerNow, Went, GivesMaterials, GivesNone};
+ghost use Rattle.keyring_trait.specs.Manager.{FindsMaterials, FindsNone, BearsOn, enc_served};
+ghost use Rattle.keyring_trait.specs.Manager.{dec_served};
 
 use crate::manager_errors::ManagerError;
 use crate::materials::{DecMaterials, EncMaterials};

@@ -56,7 +56,8 @@ impl EncRequest {
               declared = self.now.declared;
             }) }
         ensures taken { OnOk result (required_absent self.now.context keys.now ≡ None) }
-        ensures cause { IfErr result (λ e. RefusesAs e (required_absent self.now.context keys.now)) }
+        ensures cause { IfErr result (λ e. RefusesAs e
+            (required_absent self.now.context keys.now)) }
     {
         match self.context.first_missing(keys.keys()) {
             Some(absent) => Err(PairError::Refusal(Refusal::RequiredAbsent(absent.copy()?))),

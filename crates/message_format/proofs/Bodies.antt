@@ -14,7 +14,7 @@ use Rattle.body_format.specs.declared.verdicts.Verdict.{Verdict}
 use Rattle.body_format.specs.declared.verdicts.Verdict.TheVariants.{Going, Whole, Faulty}
 use Rattle.body_format.specs.Rows.{JudgedBody}
 use Rattle.body_format.specs.Body.{judged_body, beside_content}
-use Rattle.body_format.specs.Laws.{Releases}
+use Rattle.body_format.specs.Laws.{FramesHaveCome}
 use Rattle.body_format.specs.Written.{IsFramed, frame_count, pieces, framed_body}
 use Rattle.body_format.specs.Table.{tabled_frames, tabled_block}
 use Rattle.body_format.proofs.BodyLaws.{fault_stays, units_front, too_many, front_releases}
@@ -64,7 +64,7 @@ body_trailing content max key id p more e some =
 -- ---- a front of what was written
 
 -- the whole frames of a front, as a number
-frames_are : (frame_length size at n count : ℕ) → Releases frame_length size at n count → count ≡ frames_in frame_length (frame_count size frame_length) (n - at)
+frames_are : (frame_length size at n count : ℕ) → FramesHaveCome frame_length size at n count → count ≡ frames_in frame_length (frame_count size frame_length) (n - at)
 frames_are frame_length size at n count r =
     let width : ℕ = frame_length + beside_content in
     let few : count ≤ frame_count size frame_length - 1 = omega (arith, r.few) in

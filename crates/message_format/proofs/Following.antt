@@ -8,7 +8,7 @@ use Rattle.esdk_fields.specs.Reading.{Reading, Read, Refused, Wanting}
 use Rattle.esdk_fields.proofs.Fronts.{fault_stays, value_stays}
 use Rattle.header_codec.specs.declared.settings.Settings.{Settings}
 use Rattle.header_codec.specs.Header.{HeaderValue}
-use Rattle.header_codec.specs.Table.{Head, header}
+use Rattle.header_codec.specs.Table.{HeaderFields, header}
 use Rattle.header_codec.proofs.Order.{IsSequential-header}
 use Rattle.header_codec.proofs.Whole.{size_within}
 use Rattle.suite_table.specs.Keys.{derived}
@@ -69,7 +69,7 @@ header_follows settings h more p (Unlocks whole only key) = lock_follows setting
 -- ---- all the bytes
 
 -- the header stays what it is
-pub header_stays : (settings : Settings) (b more : List ℕ) (parts : Head) (p : Place) → header settings (start b) ≡ Read parts p → header_of (b ++ more) parts ≡ header_of b parts
+pub header_stays : (settings : Settings) (b more : List ℕ) (parts : HeaderFields) (p : Place) → header settings (start b) ≡ Read parts p → header_of (b ++ more) parts ≡ header_of b parts
 header_stays settings b more parts p e =
     ap (λ (r : List ℕ). value (record { suite = parts.opening.suite; message_id = parts.opening.id; stored = stored_in parts.context; entries = parts.entries; content = parts.content; commitment = parts.commitment; raw = r; iv = parts.iv; tag = parts.tag }))
     (take-append-le parts.size b more (size_within settings b parts p e))
@@ -78,12 +78,12 @@ header_stays settings b more parts p e =
     value h = h
 
 -- where a header was read, the answer is the same
-abbrev pub SameAnswer : Reading Head → Unlocking → Unlocking → Type 0
+abbrev pub SameAnswer : Reading HeaderFields → Unlocking → Unlocking → Type 0
 SameAnswer (Read parts p) a later = later ≡ a
 SameAnswer (Refused fault at) a later = Unit {0}
 SameAnswer Wanting a later = Unit {0}
 
-follows_by : (b more : List ℕ) (settings : Settings) (a later : Unlocking) (r : Reading Head) → header settings (start b) ≡ r → SameAnswer r a later
+follows_by : (b more : List ℕ) (settings : Settings) (a later : Unlocking) (r : Reading HeaderFields) → header settings (start b) ≡ r → SameAnswer r a later
     → Follows more (judged_reading b settings a r) (judged (b ++ more) settings later)
 follows_by b more settings a later (Read parts p) e same =
     let after : judged (b ++ more) settings later ≡ judged_header settings (header_of (b ++ more) parts) (followed p more) later =
@@ -131,7 +131,7 @@ fronts_go_on judgement on = λ b more whole some. going_before more (judgement b
 pub judged_goes_on : (settings : Settings) (a : Unlocking) → GoesOn (λ b. judged b settings a)
 judged_goes_on settings a = λ b more. follows b more settings a a (same (header settings (start b)))
   where
-    same : (r : Reading Head) → SameAnswer r a a
+    same : (r : Reading HeaderFields) → SameAnswer r a a
     same (Read parts p) = refl
     same (Refused fault at) = tt
     same Wanting = tt

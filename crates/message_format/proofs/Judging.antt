@@ -6,14 +6,14 @@ use Rattle.esdk_fields.specs.Reading.{Reading, Read, Refused, Wanting}
 use Rattle.context_codec.specs.Context.{KeyValue}
 use Rattle.header_codec.specs.declared.settings.Settings.{Settings}
 use Rattle.header_codec.specs.Header.{HeaderValue}
-use Rattle.header_codec.specs.Table.{Head, header}
+use Rattle.header_codec.specs.Table.{HeaderFields, header}
 use Rattle.suite_table.specs.Keys.{derived}
 use Rattle.keyring_trait.specs.Unlocking.{Unlocking, Unlocks}
 use Rattle.body_format.specs.declared.verdicts.Verdict.TheVariants.{Going, Faulty}
 use Rattle.body_format.specs.Body.{judged_body}
 use Rattle.message_format.specs.Judgement.{Judged, locked, opened_as, lock_fault, header_of, judged_lock, judged_header, judged_reading, judged}
 
-pub judged_is : (b : List ℕ) (settings : Settings) (a : Unlocking) (r : Reading Head) → header settings (start b) ≡ r → judged b settings a ≡ judged_reading b settings a r
+pub judged_is : (b : List ℕ) (settings : Settings) (a : Unlocking) (r : Reading HeaderFields) → header settings (start b) ≡ r → judged b settings a ≡ judged_reading b settings a r
 unfolding judged
 judged_is b settings a r e = ap (judged_reading b settings a) e
 
@@ -23,7 +23,7 @@ judged_refused b settings a fault at e = judged_is b settings a (Refused fault a
 pub judged_wanting : (b : List ℕ) (settings : Settings) (a : Unlocking) → header settings (start b) ≡ Wanting → judged b settings a ≡ locked Going
 judged_wanting b settings a e = judged_is b settings a Wanting e
 
-pub judged_read : (b : List ℕ) (settings : Settings) (a : Unlocking) (parts : Head) (body : Place) → header settings (start b) ≡ Read parts body → judged b settings a ≡ judged_header settings (header_of b parts) body a
+pub judged_read : (b : List ℕ) (settings : Settings) (a : Unlocking) (parts : HeaderFields) (body : Place) → header settings (start b) ≡ Read parts body → judged b settings a ≡ judged_header settings (header_of b parts) body a
 judged_read b settings a parts body e = judged_is b settings a (Read parts body) e
 
 -- the body of this header, as it is judged under this data key

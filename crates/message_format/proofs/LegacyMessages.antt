@@ -16,7 +16,7 @@ use Rattle.edk_codec.specs.Entry.{Entry}
 use Rattle.header_codec.specs.declared.settings.Settings.{Settings}
 use Rattle.header_codec.specs.Header.{Opening, HeaderValue, IsContent, latest_end, frame_length, authentication_text, header_text, opening_text, version_text, type_text}
 use Rattle.header_codec.specs.Table.{BeginsWith, header, opening, identity, type_field, suite_field}
-use Rattle.header_codec.specs.Written.{AreParts, HeaderParts, legacy_parts, body_of, value_of, keys_end, end_refusal}
+use Rattle.header_codec.specs.Written.{AreParts, HeaderParts, legacy_parts, body_of_parts, header_value, keys_end, end_refusal}
 use Rattle.header_codec.proofs.Order.{IsSequential-header}
 use Rattle.header_codec.proofs.Steps.{after_opening}
 use Rattle.header_codec.proofs.WrittenHeaders.{written_is_read}
@@ -30,7 +30,7 @@ use Rattle.body_format.specs.Rows.{JudgedBody}
 use Rattle.body_format.specs.Body.{judged_body}
 use Rattle.body_format.proofs.BodyLaws.{framed_whole, block_whole}
 use Rattle.message_format.specs.Judgement.{locked, opened_as, judged_header, lock_fault, judged}
-use Rattle.message_format.specs.Legacy.{Legacy, legacy_raw, legacy_tag, legacy_body, legacy_message, legacy_units, unit_length, HasRoom, IsLegacyWritable, IsLegacyAllowed}
+use Rattle.message_format.specs.Legacy.{Legacy, legacy_raw, legacy_tag, legacy_body, legacy_message, legacy_units, unit_length, TextHasRoom, IsLegacyWritable, IsLegacyAllowed}
 use Rattle.message_format.proofs.Judging.{judged_refused, judged_read, judged_opened}
 use Rattle.message_format.proofs.Lines.{lock_opens}
 use Rattle.message_format.proofs.WrittenHeads.{length-header_tag, header_found}
@@ -41,7 +41,7 @@ abbrev parts_of : Legacy → HeaderParts
 parts_of m = legacy_parts m.id (stored_of m.required m.context) m.entries m.content
 
 abbrev written : Legacy → HeaderValue
-written m = value_of (parts_of m) m.iv (legacy_tag m)
+written m = header_value (parts_of m) m.iv (legacy_tag m)
 
 parts_are : (m : Legacy) (text : List ℕ) → IsLegacyWritable m text → AreParts (parts_of m)
 parts_are m text w = record {
@@ -84,7 +84,7 @@ opens m = lock_opens (written m) (only_of m.required m.context) m.key (λ e. abs
 abbrev whole : List (List ℕ) → JudgedBody
 whole units = record { units = units; verdict = Whole }
 
-body_whole : (m : Legacy) (content : Content) (text : List ℕ) (max_unit : Option ℕ) (at : ℕ) → IsContent content → HasRoom content text → length m.block_iv ≡ 12
+body_whole : (m : Legacy) (content : Content) (text : List ℕ) (max_unit : Option ℕ) (at : ℕ) → IsContent content → TextHasRoom content text → length m.block_iv ≡ 12
     → IfSome max_unit (λ most. unit_length content text ≤ most)
     → judged_body content max_unit (derived Uncommitted m.key m.id) m.id (record { at = at; left = legacy_body m content text }) ≡ whole (legacy_units content text)
 body_whole m Single text max_unit at is short iv limit = block_whole max_unit (derived Uncommitted m.key m.id) m.id m.block_iv text at iv short (limit_within max_unit (length text) limit)
@@ -122,7 +122,7 @@ unfolding header
 header_refused settings e = ap (λ (r : Reading Opening). then_read r (after_opening settings)) (opening_refused settings.uncommitted e)
 
 begins_so : (m : Legacy) (text : List ℕ) → (more : List ℕ) × (legacy_message m text ≡ front ++ more)
-unfolding legacy_message body_of header_text opening_text version_text type_text to_big_endian
+unfolding legacy_message body_of_parts header_text opening_text version_text type_text to_big_endian
 begins_so m text = (_, refl)
 
 pub legacy_is_forbidden : (m : Legacy) (text : List ℕ) (settings : Settings) (answer : Unlocking) → settings.uncommitted ≡ false

@@ -7,13 +7,13 @@ use Rattle.esdk_fields.specs.declared.contents.Content.{Content}
 use Rattle.esdk_fields.specs.declared.faults.Fault.{Fault}
 use Rattle.esdk_fields.specs.declared.faults.Fault.TheVariants.{Commitment, HeaderTag}
 use Rattle.esdk_fields.specs.Place.{Place, start}
-use Rattle.esdk_fields.specs.Reading.{Reading, Read, Refused, Wanting, fault_of, value_of, bytes}
+use Rattle.esdk_fields.specs.Reading.{Reading, Read, Refused, Wanting, reading_fault, value_of, bytes}
 use Rattle.esdk_fields.proofs.Fronts.{left_is}
 use Rattle.esdk_fields.proofs.Inverse.{field_is_read, read_same}
 use Rattle.context_codec.specs.Context.{KeyValue}
 use Rattle.header_codec.specs.declared.settings.Settings.{Settings}
 use Rattle.header_codec.specs.Header.{HeaderValue, iv_text}
-use Rattle.header_codec.specs.Table.{Head, header, header_iv}
+use Rattle.header_codec.specs.Table.{HeaderFields, header, header_iv}
 use Rattle.header_codec.proofs.Order.{IsSequential-header}
 use Rattle.header_codec.proofs.Steps.{header_is_read}
 use Rattle.suite_table.specs.declared.suite.Suite.{Suite}
@@ -24,18 +24,18 @@ use Rattle.body_format.specs.Body.{judged_body}
 use Rattle.body_format.specs.Table.{tabled_frames, tabled_block}
 use Rattle.message_format.specs.Message.{header_tag}
 use Rattle.message_format.specs.Judgement.{opened_as, is_committed, lock_fault, header_of, judged_header, judged}
-use Rattle.message_format.specs.Laws.{Commits, body_start_of, key_of, tag_due, IsLineByLine}
+use Rattle.message_format.specs.Laws.{Commits, body_start_of, body_key_of, tag_due, IsLineByLine}
 use Rattle.message_format.proofs.Bodies.{frames_tabled, block_tabled}
 use Rattle.message_format.proofs.Judging.{judged_refused, judged_wanting, judged_read, judged_opened, judged_locked}
 
 -- ---- what is known of a reading
 
-faulty_reading : {A : Type 0} (r : Reading A) (fault : Fault) → fault_of r ≡ Some fault → (at : ℕ) × (r ≡ Refused fault at)
+faulty_reading : {A : Type 0} (r : Reading A) (fault : Fault) → reading_fault r ≡ Some fault → (at : ℕ) × (r ≡ Refused fault at)
 faulty_reading (Read x p) fault e = absurd cc
 faulty_reading (Refused other at) fault e = (at, cc)
 faulty_reading Wanting fault e = absurd cc
 
-wanting_reading : {A : Type 0} (r : Reading A) → fault_of r ≡ None → value_of r ≡ None → r ≡ Wanting
+wanting_reading : {A : Type 0} (r : Reading A) → reading_fault r ≡ None → value_of r ≡ None → r ≡ Wanting
 wanting_reading (Read x p) e f = absurd cc
 wanting_reading (Refused fault at) e f = absurd cc
 wanting_reading Wanting e f = refl
@@ -58,7 +58,7 @@ iv_end Committing p iv next e = let place : p.at ≡ next.at = ap (λ (p : Place
 iv_end Uncommitted p iv next e = let ends = field_end 12 p iv next e in omega (arith, ends.0, ends.1)
 
 -- the body stands behind the tag
-body_left : (settings : Settings) (b : List ℕ) (parts : Head) (body : Place) → header settings (start b) ≡ Read parts body → body.left ≡ drop (body_start_of parts) b
+body_left : (settings : Settings) (b : List ℕ) (parts : HeaderFields) (body : Place) → header settings (start b) ≡ Read parts body → body.left ≡ drop (body_start_of parts) b
 body_left settings b parts body e =
     let h = header_is_read settings (start b) parts body e in
     let size : body.at - 0 ≡ body_start_of parts = omega (arith, (field_end 16 h.iv_end parts.tag body h.tag).0, iv_end parts.opening.suite h.body_end parts.iv h.iv_end h.iv, h.size) in
@@ -107,14 +107,14 @@ lock_opens h only key e f = rw (all_committed h.suite h.commitment key h.message
 
 -- ---- the lines
 
-answered : (bytes : List ℕ) (settings : Settings) (answer : Unlocking) (parts : Head) (body : Place) (other : Unlocking) → header settings (start bytes) ≡ Read parts body → answer ≡ other
+answered : (bytes : List ℕ) (settings : Settings) (answer : Unlocking) (parts : HeaderFields) (body : Place) (other : Unlocking) → header settings (start bytes) ≡ Read parts body → answer ≡ other
     → judged bytes settings answer ≡ judged_header settings (header_of bytes parts) body other
 answered bytes settings answer parts body other e is = judged_read bytes settings answer parts body e ∙ ap (judged_header settings (header_of bytes parts) body) is
 
 -- the body of an unlocked message
-unlocked : (bytes : List ℕ) (settings : Settings) (answer : Unlocking) (parts : Head) (body : Place) (whole only : List KeyValue) (key : List ℕ) → header settings (start bytes) ≡ Read parts body
+unlocked : (bytes : List ℕ) (settings : Settings) (answer : Unlocking) (parts : HeaderFields) (body : Place) (whole only : List KeyValue) (key : List ℕ) → header settings (start bytes) ≡ Read parts body
     → answer ≡ Unlocks whole only key → Commits parts key → parts.tag ≡ tag_due bytes parts only key
-    → judged bytes settings answer ≡ opened_as (judged_body parts.content settings.max_unit (key_of parts key) parts.opening.id body)
+    → judged bytes settings answer ≡ opened_as (judged_body parts.content settings.max_unit (body_key_of parts key) parts.opening.id body)
 unlocked bytes settings answer parts body whole only key e is commits tagged =
     answered bytes settings answer parts body (Unlocks whole only key) e is
     ∙ judged_opened settings (header_of bytes parts) body whole only key (lock_opens (header_of bytes parts) only key commits tagged)
@@ -135,13 +135,13 @@ line_by_line bytes settings answer = record {
   frames = λ parts whole only key size e is commits tagged content.
       let r = read_reading (header settings (start bytes)) parts e in
       unlocked bytes settings answer parts r.0 whole only key r.1 is commits tagged
-      ∙ ap (λ (c : Content). opened_as (judged_body c settings.max_unit (key_of parts key) parts.opening.id r.0)) content
-      ∙ ap opened_as (frames_tabled settings.max_unit size (record { key = key_of parts key; id = parts.opening.id }) r.0)
-      ∙ ap (λ (left : List ℕ). opened_as (tabled_frames size (record { key = key_of parts key; id = parts.opening.id }) left)) (body_left settings bytes parts r.0 r.1);
+      ∙ ap (λ (c : Content). opened_as (judged_body c settings.max_unit (body_key_of parts key) parts.opening.id r.0)) content
+      ∙ ap opened_as (frames_tabled settings.max_unit size (record { key = body_key_of parts key; id = parts.opening.id }) r.0)
+      ∙ ap (λ (left : List ℕ). opened_as (tabled_frames size (record { key = body_key_of parts key; id = parts.opening.id }) left)) (body_left settings bytes parts r.0 r.1);
   block = λ parts whole only key e is commits tagged content.
       let r = read_reading (header settings (start bytes)) parts e in
       unlocked bytes settings answer parts r.0 whole only key r.1 is commits tagged
-      ∙ ap (λ (c : Content). opened_as (judged_body c settings.max_unit (key_of parts key) parts.opening.id r.0)) content
-      ∙ ap opened_as (block_tabled settings.max_unit (key_of parts key) parts.opening.id r.0)
-      ∙ ap (λ (left : List ℕ). opened_as (tabled_block settings.max_unit (key_of parts key) parts.opening.id left)) (body_left settings bytes parts r.0 r.1);
+      ∙ ap (λ (c : Content). opened_as (judged_body c settings.max_unit (body_key_of parts key) parts.opening.id r.0)) content
+      ∙ ap opened_as (block_tabled settings.max_unit (body_key_of parts key) parts.opening.id r.0)
+      ∙ ap (λ (left : List ℕ). opened_as (tabled_block settings.max_unit (body_key_of parts key) parts.opening.id left)) (body_left settings bytes parts r.0 r.1);
 }

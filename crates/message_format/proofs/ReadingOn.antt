@@ -6,14 +6,14 @@ use Rattle.esdk_fields.proofs.Fronts.{value_stays}
 use Rattle.context_codec.specs.Context.{KeyValue}
 use Rattle.header_codec.specs.declared.settings.Settings.{Settings}
 use Rattle.header_codec.specs.Header.{HeaderValue}
-use Rattle.header_codec.specs.Table.{Head, header}
+use Rattle.header_codec.specs.Table.{HeaderFields, header}
 use Rattle.header_codec.proofs.Order.{IsSequential-header}
 use Rattle.keyring_trait.specs.Wrapping.{WrapKeyValue}
 use Rattle.message_format.specs.Judgement.{judged}
 use Rattle.message_format.specs.Reading.{unlock_header, unlock_reading, unlocking, read}
 use Rattle.message_format.proofs.Following.{SameAnswer, GoesOn, header_stays, follows}
 
-pub unlocking_is : (b : List ℕ) (settings : Settings) (given : List KeyValue) (required : List (List ℕ)) (keys : List WrapKeyValue) (r : Reading Head) → header settings (start b) ≡ r
+pub unlocking_is : (b : List ℕ) (settings : Settings) (given : List KeyValue) (required : List (List ℕ)) (keys : List WrapKeyValue) (r : Reading HeaderFields) → header settings (start b) ≡ r
     → unlocking b settings given required keys ≡ unlock_reading b given required keys r
 unfolding unlocking
 unlocking_is b settings given required keys r e = ap (unlock_reading b given required keys) e
@@ -23,7 +23,7 @@ pub read_is : (b : List ℕ) (settings : Settings) (given : List KeyValue) (requ
 unfolding read
 read_is b settings given required keys = refl
 
-same_answer : (b more : List ℕ) (settings : Settings) (given : List KeyValue) (required : List (List ℕ)) (keys : List WrapKeyValue) (r : Reading Head) → header settings (start b) ≡ r
+same_answer : (b more : List ℕ) (settings : Settings) (given : List KeyValue) (required : List (List ℕ)) (keys : List WrapKeyValue) (r : Reading HeaderFields) → header settings (start b) ≡ r
     → SameAnswer r (unlock_reading b given required keys r) (unlocking (b ++ more) settings given required keys)
 same_answer b more settings given required keys (Read parts p) e =
     unlocking_is (b ++ more) settings given required keys (Read parts (followed p more)) (value_stays (header settings) b more parts p (IsSequential-header settings) e)

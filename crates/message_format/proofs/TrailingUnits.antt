@@ -4,8 +4,8 @@ use Rattle.std.specs.List.{flat_map, range_with_len}
 use Rattle.esdk_fields.specs.declared.contents.Content.{Content}
 use Rattle.esdk_fields.specs.declared.contents.Content.TheVariants.{Single, Framed}
 use Rattle.esdk_fields.specs.Place.{Place, cut}
-use Rattle.esdk_fields.specs.Reading.{Read, Refused, Wanting, Reader}
-use Rattle.frame_codec.specs.Unit.{Piece, More, Last, Under, frame, block}
+use Rattle.esdk_fields.specs.Reading.{Read, Refused, Wanting, FieldReader}
+use Rattle.frame_codec.specs.Unit.{Piece, More, Last, Under, frame, block_unit}
 use Rattle.body_format.specs.declared.verdicts.Verdict.TheVariants.{Whole}
 use Rattle.body_format.specs.Rows.{slot, is_more, released, verdict_of, first_other, judged_units, IsRow}
 use Rattle.body_format.specs.Body.{beside_content, judged_frames, judged_block, judged_body}
@@ -18,7 +18,7 @@ last_released : (piece : Piece) (early next : Place) → verdict_of (Read piece 
 last_released (More content) early next h = absurd cc
 last_released (Last content) early next h = (refl, refl)
 
-units_by : (width : ℕ) (unit : ℕ → Reader Piece) (p : Place) (n : ℕ) → IsRow width unit → p.at ≤ n → Cut n (slot width unit p (first_other width unit (cut n p)))
+units_by : (width : ℕ) (unit : ℕ → FieldReader Piece) (p : Place) (n : ℕ) → IsRow width unit → p.at ≤ n → Cut n (slot width unit p (first_other width unit (cut n p)))
     → (judged_units width unit (cut n p)).verdict ≡ Whole → (judged_units width unit p).units ≡ (judged_units width unit (cut n p)).units
 units_by width unit p n row within (Unknown e) whole =
     let no : verdict_of Wanting ≡ Whole = sym (ap verdict_of (slot_cut width unit p n (first_other width unit (cut n p)) row within (omega arith) ∙ e)) ∙ sym (verdict_is width unit (cut n p)) ∙ whole in absurd cc
@@ -35,7 +35,7 @@ units_by width unit p n row within (KnownRead piece next is inside e) whole =
     ∙ ap (λ (l : List (List ℕ)). flat_map (λ k. released (slot width unit (cut n p) k)) (range_with_len 0 last) ++ l) (ap released is ∙ ends.1 ∙ sym (ap released here))
     ∙ sym (units_are width unit (cut n p))
 
-rows_units : (width : ℕ) (unit : ℕ → Reader Piece) (p : Place) (n : ℕ) → IsRow width unit → p.at ≤ n
+rows_units : (width : ℕ) (unit : ℕ → FieldReader Piece) (p : Place) (n : ℕ) → IsRow width unit → p.at ≤ n
     → (judged_units width unit (cut n p)).verdict ≡ Whole → (judged_units width unit p).units ≡ (judged_units width unit (cut n p)).units
 rows_units width unit p n row within whole = units_by width unit p n row within (cut_cases n (slot width unit p (first_other width unit (cut n p)))) whole
 
@@ -45,5 +45,5 @@ under key id = record { key = key; id = id }
 pub trailing_units : (content : Content) (max_unit : Option ℕ) (key id : List ℕ) (p : Place) (n : ℕ) → p.at ≤ n
     → (judged_body content max_unit key id (cut n p)).verdict ≡ Whole → (judged_body content max_unit key id p).units ≡ (judged_body content max_unit key id (cut n p)).units
 unfolding judged_body judged_frames judged_block
-trailing_units Single max_unit key id p n within whole = rows_units 1 (λ k. block max_unit key id) p n (block_row max_unit key id) within whole
+trailing_units Single max_unit key id p n within whole = rows_units 1 (λ k. block_unit max_unit key id) p n (block_row max_unit key id) within whole
 trailing_units (Framed size) max_unit key id p n within whole = rows_units (size + beside_content) (frame size (under key id)) p n (frames_row size (under key id)) within whole

@@ -14,7 +14,7 @@ use Rattle.edk_codec.specs.Entry.{Entry}
 use Rattle.header_codec.specs.declared.settings.Settings.{Settings}
 use Rattle.header_codec.proofs.Whole.{size_within}
 use Rattle.header_codec.specs.Header.{HeaderValue}
-use Rattle.header_codec.specs.Table.{Head, header}
+use Rattle.header_codec.specs.Table.{HeaderFields, header}
 use Rattle.header_codec.proofs.Order.{IsSequential-header}
 use Rattle.context_codec.specs.Parts.{only_of, stored_in}
 use Rattle.keyring_trait.specs.Unlocking.{Unlocks}
@@ -58,7 +58,7 @@ none_before text size count start n h =
     ap (λ (k : ℕ). pieces size text (frames_in size count k)) none ∙ ap (λ (k : ℕ). pieces size text (min (count - 1) k)) (zero-div (size + beside_content)) ∙ ap (pieces size text) no_frames
 
 -- the header that was read is the same, once its tag has come
-pub header_same : (settings : Settings) (b : List ℕ) (n : ℕ) (parts : Head) (end : Place) → header settings (start (take n b)) ≡ Read parts end → header_of (take n b) parts ≡ header_of b parts
+pub header_same : (settings : Settings) (b : List ℕ) (n : ℕ) (parts : HeaderFields) (end : Place) → header settings (start (take n b)) ≡ Read parts end → header_of (take n b) parts ≡ header_of b parts
 header_same settings b n parts end e =
     let within : parts.size ≤ n = omega (arith, size_within settings (take n b) parts end e, length-take n b) in
     ap (λ (r : List ℕ). value (record { suite = parts.opening.suite; message_id = parts.opening.id; stored = stored_in parts.context; entries = parts.entries; content = parts.content; commitment = parts.commitment; raw = r; iv = parts.iv; tag = parts.tag }))

@@ -1,7 +1,11 @@
 //! Laws about messages. A law is a function that does nothing: its contract is what is proved.
 
 ghost use Rattle.message_format.specs.Legacy.{JudgesLegacyMessages, ForbidsLegacyMessages};
-ghost use Rattle.message_format.specs.Laws.{FaultsStay, UnitsStay, UnlockingStays, RefusesTrailingBytes, FrontsGoOn, OfJudged, OfRead, JudgesWhatIsWritten, ReleasesTheText, ReleasesWholeFrames, ReleasesTheFront, ReadsWhatIsWritten, ReadsWholeFrames, JudgesLineByLine};
+ghost use Rattle.message_format.specs.Laws.{FaultsStay, UnitsStay, UnlockingStays};
+ghost use Rattle.message_format.specs.Laws.{RefusesTrailingBytes, FrontsGoOn, OfJudged, OfRead};
+ghost use Rattle.message_format.specs.Laws.{JudgesWhatIsWritten, ReleasesTheText};
+ghost use Rattle.message_format.specs.Laws.{ReleasesWholeFrames, ReleasesTheFront};
+ghost use Rattle.message_format.specs.Laws.{ReadsWhatIsWritten, ReadsWholeFrames, JudgesLineByLine};
 
 /// A written message is whole under every answer that has its data key and the pairs that it
 /// doesn't store, and what is released of it is its text.

@@ -1,7 +1,8 @@
 //! The lock of a header: the key that is derived from the data key, the header's tag under it, and
 //! what unlocks a header.
 
-ghost use Rattle.std.specs.Prelude.{◌≡◌, ◌+◌, ◌^◌, ◌<◌, ◌≤◌, true, false, [], ◌++◌, length, IfOk, MatchOption};
+ghost use Rattle.std.specs.Prelude.{◌≡◌, ◌+◌, ◌^◌, ◌<◌, ◌≤◌, true, false, [], ◌++◌, length, IfOk};
+ghost use Rattle.std.specs.Prelude.{MatchOption};
 ghost use Rattle.cipher_spec.specs.Gcm.{sealed};
 ghost use Rattle.context_codec.specs.Context.{ctx_text};
 ghost use Rattle.suite_table.specs.Keys.{derived};

@@ -3,7 +3,8 @@
 ghost use Rattle.std.specs.Prelude.{◌≡◌, IfOk, IfErr};
 ghost use Rattle.header_codec.specs.Header.{lock_of};
 ghost use Rattle.keyring_trait.specs.Manager.{Went};
-ghost use Rattle.message_format.specs.Unlocking.{request_of, Answered, Unanswered, OpensLock, KeepsLock, IsUnlocked, StaysLocked};
+ghost use Rattle.message_format.specs.Unlocking.{request_of, Answered, Unanswered, OpensLock};
+ghost use Rattle.message_format.specs.Unlocking.{KeepsLock, IsUnlocked, StaysLocked};
 
 use crate::locks::unlocked_key;
 use crate::unlock_errors::UnlockError;

@@ -8,7 +8,7 @@ use Rattle.keyring_trait.specs.Wrapping.{WrapKeyValue, active}
 use Rattle.keyring_trait.specs.Keyring.{KeyringMeaning}
 use Rattle.keyring_trait.specs.declared.ring_refusals.RingRefusal.{RingRefusal}
 use Rattle.keyring_trait.proofs.Active.{active-append}
-use Rattle.multi_keyring.specs.Tree.{both_keys, all_keys, all_wraps, all_faults, all_steady, first_refusal, generator_refusal, joined}
+use Rattle.multi_keyring.specs.Tree.{both_keys, all_keys, all_wraps, all_faults, all_steady, first_refusal, generator_refusal, joined_members}
 use Rattle.multi_keyring.specs.Rows.{IsCounted, AllCounted}
 
 both_told : (keys others : Option (List WrapKeyValue)) (a b : ℕ) → IfSome keys (λ ks. length (active ks) ≡ a) → IfSome others (λ ks. length (active ks) ≡ b)
@@ -43,7 +43,7 @@ generates : (ms : List KeyringMeaning) → AllCounted ms → generator_refusal m
 generates [] counted is = absurd cc
 generates (m ∷ ms) counted is = omega (arith, counted.0.generates (or_first m.refuses_none (first_refusal ms) is))
 
-joined_generates : (has : Bool) (ms : List KeyringMeaning) → AllCounted ms → (joined has ms).refuses_none ≡ None → 1 ≤ min (all_wraps ms) 64
+joined_generates : (has : Bool) (ms : List KeyringMeaning) → AllCounted ms → (joined_members has ms).refuses_none ≡ None → 1 ≤ min (all_wraps ms) 64
 joined_generates true ms counted is = generates ms counted is
 joined_generates false ms counted is = absurd cc
 
@@ -52,7 +52,7 @@ below true n is = grind (arith, nat_tests, is)
 below false n is = absurd cc
 
 -- what is said of each member's entries is said of the multi-keyring's
-pub joined_counted : (has : Bool) (ms : List KeyringMeaning) → AllCounted ms → IsCounted (joined has ms)
+pub joined_counted : (has : Bool) (ms : List KeyringMeaning) → AllCounted ms → IsCounted (joined_members has ms)
 joined_counted has ms counted = record {
   bound = omega arith;
   told = capped_told (nat_lt 64 (all_wraps ms)) (all_wraps ms) (all_keys ms) refl (all_told ms counted);

@@ -5,7 +5,7 @@ use Rattle.std.specs.Prelude.{if◌then◌else◌}
 use Rattle.esdk_fields.specs.Counts.{Stayed}
 use Rattle.keyring_trait.specs.Keyring.{KeyringMeaning, KeyringGoes}
 use Rattle.keyring_trait.specs.declared.ring_refusals.RingRefusal.TheVariants.{NoGenerator, GeneratorHasKey}
-use Rattle.multi_keyring.specs.Tree.{all_keys, all_wraps, all_faults, all_steady, first_refusal, generator_refusal, joined}
+use Rattle.multi_keyring.specs.Tree.{all_keys, all_wraps, all_faults, all_steady, first_refusal, generator_refusal, joined_members}
 use Rattle.multi_keyring.specs.Rows.{AllGo}
 
 pub keys_go : (os ns : List KeyringMeaning) → AllGo os ns → all_keys ns ≡ all_keys os
@@ -75,7 +75,7 @@ chosen true a b c d ac bd = ac
 chosen false a b c d ac bd = bd
 
 -- a multi-keyring keeps what its members keep
-pub joined_goes : (has : Bool) (os ns : List KeyringMeaning) → AllGo os ns → KeyringGoes (joined has os) (joined has ns)
+pub joined_goes : (has : Bool) (os ns : List KeyringMeaning) → AllGo os ns → KeyringGoes (joined_members has os) (joined_members has ns)
 joined_goes has os ns go = record {
   keys = rw (wraps_go os ns go, keys_go os ns go) refl;
   wraps = ap (λ n. min n 64) (wraps_go os ns go);

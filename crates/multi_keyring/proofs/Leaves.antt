@@ -8,7 +8,7 @@ use Rattle.keyring_trait.specs.Wrapping.{WrapKeyValue, first_some, unwrapped}
 use Rattle.keyring_trait.specs.Keyring.{KeyringMeaning}
 use Rattle.raw_aes_keyring.specs.Keyring.{raw_meaning}
 use Rattle.multi_keyring.specs.Forest.{Forest, Nil, RawThen, HandedThen, MultiThen}
-use Rattle.multi_keyring.specs.Tree.{both_keys, all_keys, all_wraps, all_faults, all_steady, joined, meanings, leaves, node_leaves, tree_meaning}
+use Rattle.multi_keyring.specs.Tree.{both_keys, all_keys, all_wraps, all_faults, all_steady, joined_members, meanings, leaves, node_leaves, tree_meaning}
 use Rattle.multi_keyring.specs.declared.tree.Node.{Node}
 use Rattle.multi_keyring.specs.declared.tree.Node.TheVariants.{Raw, Handed, Multi}
 use Rattle.multi_keyring.specs.Laws.{opened_with}
@@ -43,7 +43,7 @@ forest_told leaf (HandedThen keyring f) =
     both_told_as (leaf keyring).keys (leaf keyring).keys (all_keys (meanings leaf f)) (all_keys (leaves leaf f)) (same_told (leaf keyring).keys) (forest_told leaf f)
 forest_told leaf (MultiThen has members f) =
     rw (all_keys-append (leaves leaf members) (leaves leaf f))
-    (both_told_as (joined has (meanings leaf members)).keys (all_keys (leaves leaf members)) (all_keys (meanings leaf f)) (all_keys (leaves leaf f))
+    (both_told_as (joined_members has (meanings leaf members)).keys (all_keys (leaves leaf members)) (all_keys (meanings leaf f)) (all_keys (leaves leaf f))
     (capped_told_as (nat_lt 64 (all_wraps (meanings leaf members))) (all_keys (meanings leaf members)) (all_keys (leaves leaf members)) (forest_told leaf members)) (forest_told leaf f))
 
 node_told : {P : Type 0} (leaf : P → KeyringMeaning) (node : Node P) → ToldAs (tree_meaning leaf node).keys (all_keys (node_leaves leaf node))
@@ -91,7 +91,7 @@ forest_steady leaf (HandedThen keyring f) steady =
     both_true (leaf keyring).steady (all_steady (leaves leaf f)) (first_true (leaf keyring).steady (all_steady (meanings leaf f)) steady)
     (forest_steady leaf f (second_true (leaf keyring).steady (all_steady (meanings leaf f)) steady))
 forest_steady leaf (MultiThen has members f) steady =
-    let own = joined has (meanings leaf members) in
+    let own = joined_members has (meanings leaf members) in
     steady-append (leaves leaf members) (leaves leaf f)
     (forest_steady leaf members (first_true (all_steady (meanings leaf members)) (nat_lt (all_faults (meanings leaf members)) (2 ^ 64 - 1)) (first_true own.steady (all_steady (meanings leaf f)) steady)))
     (forest_steady leaf f (second_true own.steady (all_steady (meanings leaf f)) steady))

@@ -5,11 +5,11 @@ use Rattle.std.proofs.lemmas.List.{take-append-le, drop-append-le, length-drop, 
 use Rattle.context_codec.specs.Context.{KeyValue}
 use Rattle.edk_codec.specs.Entry.{Entry}
 use Rattle.keyring_trait.specs.Wrapping.{WrapKeyValue, made, ivs_of}
-use Rattle.keyring_trait.specs.Keyring.{KeyringMeaning, KeyringGoes, WrappedValue, Wraps, key_in, ivs_in}
+use Rattle.keyring_trait.specs.Keyring.{KeyringMeaning, KeyringGoes, WrappedValue, Wraps, data_key_in, ivs_in}
 use Rattle.keyring_trait.specs.declared.ring_refusals.RingError.{RingError}
 use Rattle.multi_keyring.specs.Forest.{Forest, tallest}
 use Rattle.multi_keyring.specs.Nodes.{forest, all_of}
-use Rattle.multi_keyring.specs.Tree.{all_keys, all_wraps, all_faults, joined, leaves, meanings, tree_meaning}
+use Rattle.multi_keyring.specs.Tree.{all_keys, all_wraps, all_faults, joined_members, leaves, meanings, tree_meaning}
 use Rattle.multi_keyring.specs.Rows.{IsCounted, AllCounted, Appends, OpensAs, FindsNoKey, NoneOpens, RestBehind}
 use Rattle.multi_keyring.specs.Staying.{Stays}
 use Rattle.multi_keyring.specs.Unwrapping.{Unwraps}
@@ -35,7 +35,7 @@ value_height leaf old now v w old_is now_is stays = rw (sym old_is, sym now_is) 
 
 -- a multi-keyring goes on where its members do
 pub multi_goes : {P : Type 0} (leaf : P → KeyringMeaning) (old now : Members P) (v w : Bool × Forest P) → value_of old ≡ v → value_of now ≡ w → is_some now.generator ≡ is_some old.generator
-    → Stays leaf (all_of old) (all_of now) → KeyringGoes (joined v.0 (meanings leaf v.1)) (joined w.0 (meanings leaf w.1))
+    → Stays leaf (all_of old) (all_of now) → KeyringGoes (joined_members v.0 (meanings leaf v.1)) (joined_members w.0 (meanings leaf w.1))
 multi_goes leaf old now v w old_is now_is same stays =
     rw (joined_row leaf old v old_is, joined_row leaf now w now_is, same) (joined_goes (is_some old.generator) (map (tree_meaning leaf) (all_of old)) (map (tree_meaning leaf) (all_of now)) stays.goes)
 
@@ -49,9 +49,9 @@ capped_opens true k a b c es (Err e) opens = opens
 
 pub multi_opens : {P : Type 0} (leaf : P → KeyringMeaning) (old now : Members P) (v w : Bool × Forest P) (c : List KeyValue) (es : List Entry) (r : Result (Option (List ℕ)) RingError)
     → value_of old ≡ v → value_of now ≡ w → Unwraps leaf (all_of old) (all_of now) c es r
-    → OpensAs (joined v.0 (meanings leaf v.1)).keys (joined v.0 (meanings leaf v.1)).faults (joined w.0 (meanings leaf w.1)).faults c es r
+    → OpensAs (joined_members v.0 (meanings leaf v.1)).keys (joined_members v.0 (meanings leaf v.1)).faults (joined_members w.0 (meanings leaf w.1)).faults c es r
 multi_opens leaf old now v w c es r old_is now_is u =
-    subst (λ (n : KeyringMeaning). OpensAs (joined v.0 (meanings leaf v.1)).keys (joined v.0 (meanings leaf v.1)).faults n.faults c es r) (sym (joined_row leaf now w now_is))
+    subst (λ (n : KeyringMeaning). OpensAs (joined_members v.0 (meanings leaf v.1)).keys (joined_members v.0 (meanings leaf v.1)).faults n.faults c es r) (sym (joined_row leaf now w now_is))
     (subst (λ (m : KeyringMeaning). OpensAs m.keys m.faults (all_faults (map (tree_meaning leaf) (all_of now))) c es r) (sym (joined_row leaf old v old_is))
     (capped_opens (nat_lt 64 (all_wraps (map (tree_meaning leaf) (all_of old)))) (all_keys (map (tree_meaning leaf) (all_of old))) (all_faults (map (tree_meaning leaf) (all_of old)))
     (all_faults (map (tree_meaning leaf) (all_of now))) c es r u.opens))
@@ -75,7 +75,7 @@ capped_made false n k c key bytes es few told =
 
 -- what the members append is what the multi-keyring makes
 pub joined_wraps : (has : Bool) (ms : List KeyringMeaning) (c : List KeyValue) (random : List ℕ) (handed : Option (List ℕ)) (wrapped : WrappedValue) → all_wraps ms ≤ 64
-    → wrapped.key ≡ key_in handed random → Appends ms c wrapped.key (ivs_in handed random) [] wrapped.entries → Wraps (joined has ms) c random handed wrapped
+    → wrapped.key ≡ data_key_in handed random → Appends ms c wrapped.key (ivs_in handed random) [] wrapped.entries → Wraps (joined_members has ms) c random handed wrapped
 joined_wraps has ms c random handed wrapped few key appends = record {
   key = key;
   count = omega (arith, appends.count, few);
@@ -105,7 +105,7 @@ pub generator_wraps : {P : Type 0} (leaf : P → KeyringMeaning) (members : Memb
     → members.generator ≡ Some o → AllCounted (map (tree_meaning leaf) (all_of members)) → all_wraps (map (tree_meaning leaf) (all_of members)) ≤ 64 → handed ≡ None → random ≡ own ++ others
     → length own ≡ 32 + 12 * (tree_meaning leaf o).wraps → Wraps (tree_meaning leaf o) c own None drawn
     → Appends (map (tree_meaning leaf) members.children.items) c drawn.key others drawn.entries made.entries → made.key ≡ drawn.key
-    → Wraps (joined (is_some members.generator) (map (tree_meaning leaf) (all_of members))) c random handed made
+    → Wraps (joined_members (is_some members.generator) (map (tree_meaning leaf) (all_of members))) c random handed made
 generator_wraps {P = P} leaf members o c random own others handed drawn made has counted few none random_is long wraps appends same =
     let all_is = all_with members o has in
     let row = subst (λ (l : List (Node P)). AllCounted (map (tree_meaning leaf) l)) all_is counted in
@@ -121,7 +121,7 @@ pub generator_answers : {P E : Type 0} (leaf : P → KeyringMeaning) (members : 
     (answer : Result WrappedValue E) → members.generator ≡ Some o → AllCounted (map (tree_meaning leaf) (all_of members)) → all_wraps (map (tree_meaning leaf) (all_of members)) ≤ 64 → handed ≡ None
     → random ≡ own ++ others → length own ≡ 32 + 12 * (tree_meaning leaf o).wraps → Wraps (tree_meaning leaf o) c own None drawn
     → IfOk answer (λ wrapped. Appends (map (tree_meaning leaf) members.children.items) c drawn.key others drawn.entries wrapped.entries) → IfOk answer (λ wrapped. wrapped.key ≡ drawn.key)
-    → IfOk answer (Wraps (joined (is_some members.generator) (map (tree_meaning leaf) (all_of members))) c random handed)
+    → IfOk answer (Wraps (joined_members (is_some members.generator) (map (tree_meaning leaf) (all_of members))) c random handed)
 generator_answers leaf members o c random own others handed drawn (Ok wrapped) has counted few none random_is long wraps appends same =
     generator_wraps leaf members o c random own others handed drawn wrapped has counted few none random_is long wraps appends same
 generator_answers leaf members o c random own others handed drawn (Err error) has counted few none random_is long wraps appends same = tt

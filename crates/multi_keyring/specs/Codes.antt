@@ -13,11 +13,11 @@ abbrev pub Mark : Type 0 → Type 0
 Mark P = Option Bool ⊎ (WrapKeyValue ⊎ P)
 
 -- the marks of a row
-abbrev pub marks : {P : Type 0} → Forest P → List (Mark P)
-marks Nil = inl None ∷ []
-marks (RawThen key f) = inr (inl key) ∷ marks f
-marks (HandedThen keyring f) = inr (inr keyring) ∷ marks f
-marks (MultiThen has members f) = inl (Some has) ∷ (marks members ++ marks f)
+abbrev pub row_marks : {P : Type 0} → Forest P → List (Mark P)
+row_marks Nil = inl None ∷ []
+row_marks (RawThen key f) = inr (inl key) ∷ row_marks f
+row_marks (HandedThen keyring f) = inr (inr keyring) ∷ row_marks f
+row_marks (MultiThen has members f) = inl (Some has) ∷ (row_marks members ++ row_marks f)
 
 -- a tree before the first of these rows
 abbrev pub before_first : {P : Type 0} → (Forest P → Forest P) → List (Forest P) → List (Forest P)
@@ -40,14 +40,14 @@ rows (inr (inr keyring) ∷ ms) = before_first (HandedThen keyring) (rows ms)
 
 -- the marks of a row, and others behind them, mean that row and the others' rows
 pub rows-marks : {P : Type 0} (f : Forest P) (ms : List (Mark P))
-    → rows (marks f ++ ms) ≡ f ∷ rows ms
+    → rows (row_marks f ++ ms) ≡ f ∷ rows ms
 rows-marks Nil ms = refl
 rows-marks (RawThen key f) ms = ap (before_first (RawThen key)) (rows-marks f ms)
 rows-marks (HandedThen keyring f) ms = ap (before_first (HandedThen keyring)) (rows-marks f ms)
 rows-marks (MultiThen has members f) ms =
-    ap (λ l. of_first has (rows l)) (append_assoc (marks members) (marks f) ms)
+    ap (λ l. of_first has (rows l)) (append_assoc (row_marks members) (row_marks f) ms)
     ∙ ap (of_first has)
-    (rows-marks members (marks f ++ ms) ∙ ap (λ r. members ∷ r) (rows-marks f ms))
+    (rows-marks members (row_marks f ++ ms) ∙ ap (λ r. members ∷ r) (rows-marks f ms))
 
 abbrev pub first_row : {P : Type 0} → List (Forest P) → Forest P
 first_row [] = Nil
@@ -56,8 +56,8 @@ first_row (f ∷ fs) = f
 abbrev pub from_marks : {P : Type 0} → List (Mark P) → Forest P
 from_marks ms = first_row (rows ms)
 
-pub from_marks-marks : {P : Type 0} (f : Forest P) → from_marks (marks f) ≡ f
-from_marks-marks f = ap from_marks (sym (append-nil (marks f))) ∙ ap first_row (rows-marks f [])
+pub from_marks-marks : {P : Type 0} (f : Forest P) → from_marks (row_marks f) ≡ f
+from_marks-marks f = ap from_marks (sym (append-nil (row_marks f))) ∙ ap first_row (rows-marks f [])
 
 -- a raw key is stored as its four parts
 abbrev pub key_code : Coded WrapKeyValue
@@ -74,4 +74,4 @@ abbrev pub forest_code : {P : Type 0} → Coded P → Coded (Forest P)
 forest_code {P = P} code =
     code_by (List (Mark P))
     (coded_list (coded⊎ (coded_option coded_bool) (coded⊎ key_code code)))
-    marks from_marks from_marks-marks
+    row_marks from_marks from_marks-marks

@@ -60,8 +60,8 @@ generator_refusal (generator ∷ children) = option_or generator.refuses_none (f
 -- where it has no generator. No multi-keyring is made whose members make more than 64 entries, and
 -- no keyring's number of entries changes. A contract that says what the members mean now says of
 -- more than 64 that no keys are told and 64 entries are made.
-abbrev pub joined : Bool → List KeyringMeaning → KeyringMeaning
-joined has_generator members = record {
+abbrev pub joined_members : Bool → List KeyringMeaning → KeyringMeaning
+joined_members has_generator members = record {
   keys = if nat_lt 64 (all_wraps members) then None else all_keys members;
   wraps = min (all_wraps members) 64;
   refuses_key = if has_generator then Some GeneratorHasKey else first_refusal members;
@@ -78,13 +78,13 @@ meanings leaf Nil = []
 meanings leaf (RawThen key f) = raw_meaning key ∷ meanings leaf f
 meanings leaf (HandedThen keyring f) = leaf keyring ∷ meanings leaf f
 meanings leaf (MultiThen has_generator members f) =
-    joined has_generator (meanings leaf members) ∷ meanings leaf f
+    joined_members has_generator (meanings leaf members) ∷ meanings leaf f
 
 -- what a tree means
 abbrev pub tree_meaning : {P : Type 0} → (P → KeyringMeaning) → Node P → KeyringMeaning
 tree_meaning leaf (Raw key) = raw_meaning key
 tree_meaning leaf (Handed keyring) = leaf keyring
-tree_meaning leaf (Multi multi) = joined multi.value.0 (meanings leaf multi.value.1)
+tree_meaning leaf (Multi multi) = joined_members multi.value.0 (meanings leaf multi.value.1)
 
 -- ---- leaves
 

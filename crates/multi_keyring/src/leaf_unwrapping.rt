@@ -4,7 +4,8 @@ ghost use Rattle.std.specs.Prelude.{◌≡◌, ◌<◌, ◌≤◌, ◌^◌, leng
 ghost use Rattle.keyring_trait.specs.Keyring.{KeyringGoes, UnwrapCause};
 ghost use Rattle.multi_keyring.specs.Forest.{tallest};
 ghost use Rattle.multi_keyring.specs.Nodes.{all_of, forest, node_height};
-ghost use Rattle.multi_keyring.specs.Tree.{joined, leaves, meanings, node_leaves, tree_meaning};
+ghost use Rattle.multi_keyring.specs.Tree.{joined_members, leaves, meanings, node_leaves};
+ghost use Rattle.multi_keyring.specs.Tree.{tree_meaning};
 ghost use Rattle.multi_keyring.specs.LeafUnwrapping.{AnswersAt, AsksLeaf, IsSeat};
 
 use crate::tree::{Members, Multi, Node};
@@ -62,8 +63,8 @@ impl<P: Keyring> Multi<P> {
         requires first { 1 ≤ leaf }
         requires last { leaf ≤ length (leaves P.meaning self.old.1) }
         ensures height { tallest self.new.1 ≡ tallest self.old.1 }
-        ensures goes { KeyringGoes (joined self.old.0 (meanings P.meaning self.old.1))
-            (joined self.new.0 (meanings P.meaning self.new.1)) }
+        ensures goes { KeyringGoes (joined_members self.old.0 (meanings P.meaning self.old.1))
+            (joined_members self.new.0 (meanings P.meaning self.new.1)) }
         ensures answers { AnswersAt leaf (leaves P.meaning self.old.1)
             (leaves P.meaning self.new.1) context.now entries.now result }
     {

@@ -3,7 +3,7 @@
 ghost use Rattle.std.specs.Prelude.{◌≡◌, map, is_some};
 ghost use Rattle.keyring_trait.specs.Keyring.{refusal_with};
 ghost use Rattle.multi_keyring.specs.Nodes.{all_of};
-ghost use Rattle.multi_keyring.specs.Tree.{first_refusal, joined, meanings, tree_meaning};
+ghost use Rattle.multi_keyring.specs.Tree.{first_refusal, joined_members, meanings, tree_meaning};
 
 use crate::tree::{Members, Multi, Node};
 use keyring_trait::{Keyring, RingRefusal};
@@ -26,7 +26,8 @@ impl<P: Keyring> Multi<P> {
     /// What the multi-keyring refuses with a data key handed to it, or without one.
     #[cycle(refusal)]
     fn refusal(&self, has_key: bool) -> Option<RingRefusal>
-        ensures { result ≡ refusal_with has_key (joined self.now.0 (meanings P.meaning self.now.1)) }
+        ensures { result ≡ refusal_with has_key (joined_members self.now.0
+            (meanings P.meaning self.now.1)) }
     {
         self.members.refusal(has_key)
     }
@@ -38,7 +39,8 @@ impl<P: Keyring> Members<P> {
     #[cycle(refusal)]
     pub(crate) fn refusal(&self, has_key: bool) -> Option<RingRefusal>
         ensures { result ≡ refusal_with has_key
-            (joined (is_some self.now.generator) (map (tree_meaning P.meaning) (all_of self.now))) }
+            (joined_members (is_some self.now.generator)
+            (map (tree_meaning P.meaning) (all_of self.now))) }
     {
         match &self.generator {
             Some(_) if has_key => Some(RingRefusal::GeneratorHasKey),

@@ -5,7 +5,8 @@ ghost use Rattle.std.specs.Prelude.{◌≡◌, ◌<◌, ◌^◌, length, is_some
 ghost use Rattle.keyring_trait.specs.Keyring.{KeyringGoes};
 ghost use Rattle.multi_keyring.specs.Forest.{tallest};
 ghost use Rattle.multi_keyring.specs.Nodes.{all_of, node_height};
-ghost use Rattle.multi_keyring.specs.Tree.{joined, leaves, meanings, node_leaves, tree_meaning};
+ghost use Rattle.multi_keyring.specs.Tree.{joined_members, leaves, meanings, node_leaves};
+ghost use Rattle.multi_keyring.specs.Tree.{tree_meaning};
 ghost use Rattle.multi_keyring.specs.Rows.{OpensAs, FindsNoKey, NoneOpens, RestBehind};
 ghost use Rattle.multi_keyring.specs.Unwrapping.{Unwraps};
 
@@ -57,11 +58,12 @@ impl<P: Keyring> Multi<P> {
         entries: &[DataKeyEntry],
     ) -> Result<Option<DataKey>, RingError>
         ensures height { tallest self.new.1 ≡ tallest self.old.1 }
-        ensures goes { KeyringGoes (joined self.old.0 (meanings P.meaning self.old.1))
-            (joined self.new.0 (meanings P.meaning self.new.1)) }
-        ensures opens { OpensAs (joined self.old.0 (meanings P.meaning self.old.1)).keys
-            (joined self.old.0 (meanings P.meaning self.old.1)).faults
-            (joined self.new.0 (meanings P.meaning self.new.1)).faults context.now entries.now
+        ensures goes { KeyringGoes (joined_members self.old.0 (meanings P.meaning self.old.1))
+            (joined_members self.new.0 (meanings P.meaning self.new.1)) }
+        ensures opens { OpensAs (joined_members self.old.0 (meanings P.meaning self.old.1)).keys
+            (joined_members self.old.0 (meanings P.meaning self.old.1)).faults
+            (joined_members self.new.0 (meanings P.meaning self.new.1)).faults context.now
+            entries.now
             result }
         ensures none { FindsNoKey result
             → NoneOpens (leaves P.meaning self.old.1)

@@ -7,7 +7,8 @@ ghost use Rattle.std.specs.Option.{option_copied};
 ghost use Rattle.keyring_trait.specs.Keyring.{KeyringGoes, Wraps, WrapCause, refusal_with, wanted};
 ghost use Rattle.multi_keyring.specs.Forest.{tallest};
 ghost use Rattle.multi_keyring.specs.Nodes.{all_of, node_height};
-ghost use Rattle.multi_keyring.specs.Tree.{all_faults, all_wraps, first_refusal, joined, meanings};
+ghost use Rattle.multi_keyring.specs.Tree.{all_faults, all_wraps, first_refusal, joined_members};
+ghost use Rattle.multi_keyring.specs.Tree.{meanings};
 ghost use Rattle.multi_keyring.specs.Tree.{tree_meaning};
 ghost use Rattle.multi_keyring.specs.Rows.{Appends};
 ghost use Rattle.multi_keyring.specs.Staying.{Stays};
@@ -62,19 +63,20 @@ impl<P: Keyring> Multi<P> {
         key: Option<&DataKey>,
     ) -> Result<Wrapped, RingError>
         requires { length random.now ≡ wanted (is_some key)
-            (joined self.old.0 (meanings P.meaning self.old.1)).wraps }
+            (joined_members self.old.0 (meanings P.meaning self.old.1)).wraps }
         ensures height { tallest self.new.1 ≡ tallest self.old.1 }
-        ensures goes { KeyringGoes (joined self.old.0 (meanings P.meaning self.old.1))
-            (joined self.new.0 (meanings P.meaning self.new.1)) }
+        ensures goes { KeyringGoes (joined_members self.old.0 (meanings P.meaning self.old.1))
+            (joined_members self.new.0 (meanings P.meaning self.new.1)) }
         ensures wraps { IfOk result
-            (Wraps (joined self.old.0 (meanings P.meaning self.old.1)) context.now random.now
+            (Wraps (joined_members self.old.0 (meanings P.meaning self.old.1)) context.now
+            random.now
             (option_copied key.entry)) }
         ensures taken { OnOk result (refusal_with (is_some key.entry)
-            (joined self.old.0 (meanings P.meaning self.old.1)) ≡ None) }
+            (joined_members self.old.0 (meanings P.meaning self.old.1)) ≡ None) }
         ensures cause { IfErr result (WrapCause (refusal_with (is_some key.entry)
-            (joined self.old.0 (meanings P.meaning self.old.1)))
-            (joined self.old.0 (meanings P.meaning self.old.1)).faults
-            (joined self.new.0 (meanings P.meaning self.new.1)).faults) }
+            (joined_members self.old.0 (meanings P.meaning self.old.1)))
+            (joined_members self.old.0 (meanings P.meaning self.old.1)).faults
+            (joined_members self.new.0 (meanings P.meaning self.new.1)).faults) }
     {
         self.members.encrypt(alloc, context, random, key)
     }
@@ -99,15 +101,16 @@ impl<P: Keyring> Members<P> {
         ensures same { is_some self.new.generator ≡ is_some self.old.generator }
         ensures few { length self.new.children.items ≡ length self.old.children.items }
         ensures stays { Stays P.meaning (all_of self.old) (all_of self.new) }
-        ensures wraps { IfOk result (Wraps (joined (is_some self.old.generator)
+        ensures wraps { IfOk result (Wraps (joined_members (is_some self.old.generator)
             (map (tree_meaning P.meaning) (all_of self.old)))
             context.now random.now (option_copied key.entry)) }
         ensures taken { OnOk result
-            (refusal_with (is_some key.entry) (joined (is_some self.old.generator)
+            (refusal_with (is_some key.entry) (joined_members (is_some self.old.generator)
             (map (tree_meaning P.meaning) (all_of self.old))) ≡ None) }
         ensures cause { IfErr result
             (WrapCause (refusal_with (is_some key.entry)
-            (joined (is_some self.old.generator) (map (tree_meaning P.meaning) (all_of self.old))))
+            (joined_members (is_some self.old.generator)
+            (map (tree_meaning P.meaning) (all_of self.old))))
             (all_faults (map (tree_meaning P.meaning) (all_of self.old)))
             (all_faults (map (tree_meaning P.meaning) (all_of self.new)))) }
     {

@@ -2,7 +2,7 @@
 
 ghost use Rattle.std.specs.Prelude.{◌≡◌, ◌<◌, ◌≤◌, ◌*◌, ◌^◌, length, map};
 ghost use Rattle.multi_keyring.specs.Nodes.{all_of};
-ghost use Rattle.multi_keyring.specs.Tree.{all_wraps, joined, meanings, tree_meaning};
+ghost use Rattle.multi_keyring.specs.Tree.{all_wraps, joined_members, meanings, tree_meaning};
 ghost use Rattle.multi_keyring.specs.Rows.{IsCounted, AllCounted};
 
 use crate::making::MAX_WRAPS;
@@ -28,8 +28,8 @@ impl<P: Keyring> Multi<P> {
     /// How many entries the multi-keyring makes of a data key.
     #[cycle(entry_count)]
     fn entry_count(&self) -> u32
-        ensures value { result ≡ (joined self.now.0 (meanings P.meaning self.now.1)).wraps }
-        ensures counted { IsCounted (joined self.now.0 (meanings P.meaning self.now.1)) }
+        ensures value { result ≡ (joined_members self.now.0 (meanings P.meaning self.now.1)).wraps }
+        ensures counted { IsCounted (joined_members self.now.0 (meanings P.meaning self.now.1)) }
     {
         self.members.entry_count().min(MAX_WRAPS) as u32
     }

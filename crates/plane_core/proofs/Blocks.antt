@@ -7,7 +7,7 @@ use Rattle.std.proofs.lemmas.Nat.Bits.{bit_at_cat_low}
 use Rattle.std.proofs.lemmas.List.FromFn.{get_or-map-range_with_len, fill_by_all}
 use Rattle.plane_core.specs.declared.planes.Planes.{Planes}
 use Rattle.plane_core.specs.Bits.{number_of, byte_of, block}
-use Rattle.plane_core.specs.Grid.{row, word_at}
+use Rattle.plane_core.specs.Grid.{bit_row, plane_word}
 use Rattle.plane_core.specs.Places.{lane, lane_bit, word_bit, spot}
 use Rattle.plane_core.proofs.Bytes.{same_image, spread}
 use Rattle.plane_core.proofs.States.{same_state}
@@ -42,27 +42,27 @@ eight_blocks a0 a1 a2 a3 a4 a5 a6 a7 b0 b1 b2 b3 b4 b5 b6 b7 e0 e1 e2 e3 e4 e5 e
 
 -- each bit of the words r stands in p with its place in the byte and its word exchanged
 pub record IsTransposed {W : Type 0} (cell : W → ℕ → ℕ → ℕ) (p r : Planes W) : Type 0 where
-  pub cells : (q i k : ℕ) → q < 8 → i < 8 → cell (word_at p q) k i ≡ cell (word_at r i) k q
+  pub cells : (q i k : ℕ) → q < 8 → i < 8 → cell (plane_word p q) k i ≡ cell (plane_word r i) k q
 
-row_bit : {W : Type 0} → (cell : W → ℕ → ℕ → ℕ) → (w : W) (k i : ℕ) → i < 8 → get_or (row cell w k) i 0 ≡ cell w k i
-unfolding row
+row_bit : {W : Type 0} → (cell : W → ℕ → ℕ → ℕ) → (w : W) (k i : ℕ) → i < 8 → get_or (bit_row cell w k) i 0 ≡ cell w k i
+unfolding bit_row
 row_bit cell w k i h = get_or-map-range_with_len (cell w k) 0 8 i i 0 h (omega arith)
 
 pub by_rows : {W : Type 0} → (cell : W → ℕ → ℕ → ℕ) → (p r : Planes W)
-    → ((q k : ℕ) → q < 8 → row cell (word_at p q) k ≡ map (λ i. get_or (row cell (word_at r i) k) q 0) (range_with_len 0 8))
+    → ((q k : ℕ) → q < 8 → bit_row cell (plane_word p q) k ≡ map (λ i. get_or (bit_row cell (plane_word r i) k) q 0) (range_with_len 0 8))
     → IsTransposed cell p r
 by_rows cell p r e = record {
   cells = λ q i k h l.
-      sym (row_bit cell (word_at p q) k i l) ∙ ap (λ x. get_or x i 0) (e q k h)
-      ∙ get_or-map-range_with_len (λ i. get_or (row cell (word_at r i) k) q 0) 0 8 i i 0 l (omega arith)
-      ∙ row_bit cell (word_at r i) k q h;
+      sym (row_bit cell (plane_word p q) k i l) ∙ ap (λ x. get_or x i 0) (e q k h)
+      ∙ get_or-map-range_with_len (λ i. get_or (bit_row cell (plane_word r i) k) q 0) 0 8 i i 0 l (omega arith)
+      ∙ row_bit cell (plane_word r i) k q h;
 }
 
 pub turned_round : {W : Type 0} → (cell : W → ℕ → ℕ → ℕ) → (p r : Planes W) → IsTransposed cell p r → IsTransposed cell r p
 turned_round cell p r e = record { cells = λ q i k h l. sym (e.cells i q k l h) }
 
 pub byte_from_bits : {P : Type 0} → (bit : P → ℕ → ℕ → ℕ) → (x : Planes P) (j b n : ℕ) → n < 256
-    → ((q : ℕ) → q < 8 → bit (word_at x q) j b ≡ bit_at n q) → byte_of bit x j b ≡ n
+    → ((q : ℕ) → q < 8 → bit (plane_word x q) j b ≡ bit_at n q) → byte_of bit x j b ≡ n
 unfolding byte_of
 byte_from_bits bit x j b n h e =
     same_image number_of _ _ _ _ _ _ _ _ _ _ _ _ _ _ _ _ (e 0 (omega arith)) (e 1 (omega arith)) (e 2 (omega arith)) (e 3 (omega arith)) (e 4 (omega arith)) (e 5 (omega arith)) (e 6 (omega arith)) (e 7 (omega arith)) ∙ spread n h
@@ -70,7 +70,7 @@ byte_from_bits bit x j b n h e =
 -- ---- eight blocks in vectors
 
 pub of_lanes : (p r : Planes (List ℕ)) → IsTransposed lane_cell p r → (b : ℕ) → b < 8 → (x : List ℕ) → length x ≡ 16
-    → ((j : ℕ) → get_or x j 0 < 256) → ((j : ℕ) → j < 16 → get_or (word_at r b) (lane j) 0 ≡ get_or x j 0) → block lane_bit p b ≡ x
+    → ((j : ℕ) → get_or x j 0 < 256) → ((j : ℕ) → j < 16 → get_or (plane_word r b) (lane j) 0 ≡ get_or x j 0) → block lane_bit p b ≡ x
 unfolding block
 of_lanes p r e b h x long bytes lanes =
     same_state (λ j. byte_of lane_bit p (j % 4 + 4 * (j / 4)) b) (λ j. get_or x j 0) (λ j l.
@@ -99,27 +99,27 @@ abbrev pub half : ℕ → ℕ → ℕ → ℕ
 half zero first second = first
 half (suc n) first second = second
 
-half_at : (r : Planes ℕ) (b n : ℕ) → n < 2 → word_at r (4 * n + b) ≡ half n (word_at r b) (word_at r (4 + b))
-half_at r b zero h = let e : 4 * 0 + b ≡ b = omega arith in ap (word_at r) e
+half_at : (r : Planes ℕ) (b n : ℕ) → n < 2 → plane_word r (4 * n + b) ≡ half n (plane_word r b) (plane_word r (4 + b))
+half_at r b zero h = let e : 4 * 0 + b ≡ b = omega arith in ap (plane_word r) e
 half_at r b (suc zero) h = refl
 half_at r b (suc (suc n)) h = absurd (omega arith)
 
 word_byte : (p r : Planes ℕ) → IsTransposed cell p r → (b j : ℕ) → b < 4 → j < 16
-    → byte_of word_bit p j b ≡ byte_at (j % 8) (half (j / 8) (word_at r b) (word_at r (4 + b)))
+    → byte_of word_bit p j b ≡ byte_at (j % 8) (half (j / 8) (plane_word r b) (plane_word r (4 + b)))
 word_byte p r e b j h l =
     let i = 4 * (j / 8) + b in
-    let w = word_at r i in
+    let w = plane_word r i in
     byte_from_bits word_bit p j b (byte_at (j % 8) w) (byte_is_small w (j % 8)) (λ q s.
     let here : spot j (b % 4) ≡ 8 * (j % 8 % 8) + i = omega arith in
     let there : 8 * (j % 8 % 8) + q ≡ 8 * (j % 8) + q = omega arith in
-    ap (bit_at (word_at p q)) here ∙ e.cells q i (j % 8) s (omega arith) ∙ ap (bit_at w) there ∙ sym (bits_of_byte w q s (j % 8) (omega arith)))
+    ap (bit_at (plane_word p q)) here ∙ e.cells q i (j % 8) s (omega arith) ∙ ap (bit_at w) there ∙ sym (bits_of_byte w q s (j % 8) (omega arith)))
     ∙ ap (byte_at (j % 8)) (half_at r b (j / 8) (omega arith))
 
 pub of_halves : (p r : Planes ℕ) → IsTransposed cell p r → (b : ℕ) → b < 4
-    → block word_bit p b ≡ to_le_bytes w64 (word_at r b) ++ to_le_bytes w64 (word_at r (4 + b))
+    → block word_bit p b ≡ to_le_bytes w64 (plane_word r b) ++ to_le_bytes w64 (plane_word r (4 + b))
 unfolding block
 of_halves p r e b h =
-    same_state (λ j. byte_of word_bit p (j % 4 + 4 * (j / 4)) b) (λ j. byte_at (j % 8) (half (j / 8) (word_at r b) (word_at r (4 + b)))) (λ j l.
+    same_state (λ j. byte_of word_bit p (j % 4 + 4 * (j / 4)) b) (λ j. byte_at (j % 8) (half (j / 8) (plane_word r b) (plane_word r (4 + b)))) (λ j l.
     let i : j % 4 + 4 * (j / 4) ≡ j = omega arith in
     rw i (word_byte p r e b j h l))
 

@@ -5,7 +5,7 @@ use Rattle.std.proofs.lemmas.Nat.{xor_lt}
 use Rattle.cipher_spec.proofs.Computed.{holds_below, same_below}
 use Rattle.plane_core.specs.declared.planes.Planes.{Planes}
 use Rattle.plane_core.specs.Bits.{number_of, byte_of}
-use Rattle.plane_core.specs.Grid.{word_at}
+use Rattle.plane_core.specs.Grid.{plane_word}
 use Rattle.plane_core.proofs.Gates.{bit_of_xor}
 
 -- a function of a byte's bits at the byte n
@@ -49,7 +49,7 @@ byte_below bit is_bit x j b = number_below (bit x.b0 j b) (bit x.b1 j b) (bit x.
 
 -- bit i of a byte is that of plane i
 pub byte_bit : {P : Type 0} → (bit : P → ℕ → ℕ → ℕ) → ((p : P) (j b : ℕ) → bit p j b < 2) → (x : Planes P) (j b i : ℕ) → i < 8
-    → bit_at (byte_of bit x j b) i ≡ bit (word_at x i) j b
+    → bit_at (byte_of bit x j b) i ≡ bit (plane_word x i) j b
 unfolding byte_of
 byte_bit bit is_bit x j b zero h = bit0_of (bit x.b0 j b) (bit x.b1 j b) (bit x.b2 j b) (bit x.b3 j b) (bit x.b4 j b) (bit x.b5 j b) (bit x.b6 j b) (bit x.b7 j b) (is_bit x.b0 j b) (is_bit x.b1 j b) (is_bit x.b2 j b) (is_bit x.b3 j b) (is_bit x.b4 j b) (is_bit x.b5 j b) (is_bit x.b6 j b) (is_bit x.b7 j b)
 byte_bit bit is_bit x j b (suc zero) h = bit1_of (bit x.b0 j b) (bit x.b1 j b) (bit x.b2 j b) (bit x.b3 j b) (bit x.b4 j b) (bit x.b5 j b) (bit x.b6 j b) (bit x.b7 j b) (is_bit x.b0 j b) (is_bit x.b1 j b) (is_bit x.b2 j b) (is_bit x.b3 j b) (is_bit x.b4 j b) (is_bit x.b5 j b) (is_bit x.b6 j b) (is_bit x.b7 j b)
@@ -75,7 +75,7 @@ pub spread : (n : ℕ) → n < 256 → at_bits number_of n ≡ n
 spread n h = same_below (λ n. at_bits number_of n) (λ n. n) 256 tt n h
 
 sum_bit : {P : Type 0} → (bit : P → ℕ → ℕ → ℕ) → ((p : P) (j b : ℕ) → bit p j b < 2) → (x y : Planes P) (j b i : ℕ) → i < 8
-    → bit_xor (bit (word_at x i) j b) (bit (word_at y i) j b) ≡ bit_at (bit_xor (byte_of bit x j b) (byte_of bit y j b)) i
+    → bit_xor (bit (plane_word x i) j b) (bit (plane_word y i) j b) ≡ bit_at (bit_xor (byte_of bit x j b) (byte_of bit y j b)) i
 sum_bit bit is_bit x y j b i h =
     rw (bit_of_xor (byte_of bit x j b) (byte_of bit y j b) i, byte_bit bit is_bit x j b i h, byte_bit bit is_bit y j b i h) refl
 

@@ -5,7 +5,7 @@ use Rattle.std.proofs.lemmas.Bool.{cases_lt}
 use Rattle.std.proofs.lemmas.List.FromFn.{fill_by_all}
 use Rattle.plane_core.specs.declared.planes.Planes.{Planes}
 use Rattle.plane_core.specs.Bits.{byte_of, block, number_of}
-use Rattle.plane_core.specs.Grid.{word_at}
+use Rattle.plane_core.specs.Grid.{plane_word}
 use Rattle.plane_core.specs.Places.{lane, lane_bit, wide_bit, wide_lane}
 use Rattle.plane_core.proofs.Bytes.{same_image}
 use Rattle.plane_core.proofs.States.{same_state}
@@ -30,7 +30,7 @@ sixteen_blocks a0 a1 a2 a3 a4 a5 a6 a7 a8 a9 a10 a11 a12 a13 a14 a15 b0 b1 b2 b3
 
 -- block i of half h
 pub of_wide_lanes : (p r : Planes (List ℕ)) → IsTransposed lane_cell p r → (h i : ℕ) → h < 2 → i < 8 → (x : List ℕ) → length x ≡ 16
-    → ((j : ℕ) → get_or x j 0 < 256) → ((j : ℕ) → j < 16 → get_or (word_at r i) (16 * h + lane j) 0 ≡ get_or x j 0) → block wide_bit p (8 * h + i) ≡ x
+    → ((j : ℕ) → get_or x j 0 < 256) → ((j : ℕ) → j < 16 → get_or (plane_word r i) (16 * h + lane j) 0 ≡ get_or x j 0) → block wide_bit p (8 * h + i) ≡ x
 unfolding block
 of_wide_lanes p r e h i u v x long bytes lanes =
     let b = 8 * h + i in
@@ -39,16 +39,16 @@ of_wide_lanes p r e h i u v x long bytes lanes =
     let m : wide_lane j b ≡ 16 * h + lane j = omega arith in
     let n : b % 8 ≡ i = omega arith in
     rw k (byte_from_bits wide_bit p j b (get_or x j 0) (bytes j) (λ q s.
-    ap (λ k. bit_at (get_or (word_at p q) k 0) (b % 8)) m ∙ ap (bit_at (get_or (word_at p q) (16 * h + lane j) 0)) n
+    ap (λ k. bit_at (get_or (plane_word p q) k 0) (b % 8)) m ∙ ap (bit_at (get_or (plane_word p q) (16 * h + lane j) 0)) n
     ∙ e.cells q i (16 * h + lane j) s v ∙ ap (λ n. bit_at n q) (lanes j l))))
     ∙ sym (fill_by_all (λ j. get_or x j 0) x 16 0 long (λ k l. refl))
 
 pub of_low_lanes : (p r : Planes (List ℕ)) → IsTransposed lane_cell p r → (i : ℕ) → i < 8 → (x : List ℕ) → length x ≡ 16
-    → ((j : ℕ) → get_or x j 0 < 256) → ((j : ℕ) → j < 16 → get_or (word_at r i) (lane j) 0 ≡ get_or x j 0) → block wide_bit p (8 * 0 + i) ≡ x
+    → ((j : ℕ) → get_or x j 0 < 256) → ((j : ℕ) → j < 16 → get_or (plane_word r i) (lane j) 0 ≡ get_or x j 0) → block wide_bit p (8 * 0 + i) ≡ x
 of_low_lanes p r e i v x long bytes lanes =
     of_wide_lanes p r e 0 i (omega arith) v x long bytes (λ j l.
     let k : 16 * 0 + lane j ≡ lane j = omega arith in
-    ap (λ k. get_or (word_at r i) k 0) k ∙ lanes j l)
+    ap (λ k. get_or (plane_word r i) k 0) k ∙ lanes j l)
 
 -- ---- vectors put together of halves
 
@@ -75,7 +75,7 @@ bit_high w v high j b h l =
     ap (λ k. bit_at (get_or w k 0) ((8 + b) % 8)) m ∙ ap (bit_at (get_or w (16 + lane j) 0)) n ∙ ap (λ n. bit_at n b) (high (lane j) (omega arith))
 
 -- a block of wide planes that is one of narrow planes
-pub block_of_half : (p x : Planes (List ℕ)) (b d : ℕ) → ((q j : ℕ) → q < 8 → j < 16 → wide_bit (word_at p q) j b ≡ lane_bit (word_at x q) j d) → block wide_bit p b ≡ block lane_bit x d
+pub block_of_half : (p x : Planes (List ℕ)) (b d : ℕ) → ((q j : ℕ) → q < 8 → j < 16 → wide_bit (plane_word p q) j b ≡ lane_bit (plane_word x q) j d) → block wide_bit p b ≡ block lane_bit x d
 unfolding block byte_of
 block_of_half p x b d e =
     same_state (λ j. byte_of wide_bit p (j % 4 + 4 * (j / 4)) b) (λ j. byte_of lane_bit x (j % 4 + 4 * (j / 4)) d) (λ j l.

@@ -5,8 +5,8 @@
 use Rattle.std.specs.Prelude.{ℕ, List, [], ◌∷◌, bit_and, bit_xor}
 
 -- t21 to t24
-unfoldable pub head : ℕ → ℕ → ℕ → ℕ → ℕ → ℕ → ℕ → ℕ → List ℕ
-head x0 x1 x2 x3 x4 x5 x6 x7 =
+unfoldable pub circuit_head : ℕ → ℕ → ℕ → ℕ → ℕ → ℕ → ℕ → ℕ → List ℕ
+circuit_head x0 x1 x2 x3 x4 x5 x6 x7 =
     let y14 = bit_xor x3 x5 in
     let y13 = bit_xor x0 x6 in
     let y9 = bit_xor x0 x3 in

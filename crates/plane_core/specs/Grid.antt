@@ -1,11 +1,12 @@
 -- Words of bytes as rows of bits.
-use Rattle.std.specs.Prelude.{ℕ, zero, suc, ◌+◌, ◌-◌, ◌/◌, ◌%◌, ◌==◌, List, map, slice_index, if◌then◌else◌}
+use Rattle.std.specs.Prelude.{ℕ, zero, suc, ◌+◌, ◌-◌, ◌/◌, ◌%◌, ◌==◌, List, map, slice_index}
+use Rattle.std.specs.Prelude.{if◌then◌else◌}
 use Rattle.std.specs.List.{range_with_len}
 use Rattle.plane_core.specs.declared.planes.Planes.{Planes}
 
 -- the bits of byte k of a word, the lowest first, where `cell` gives them
-unfoldable pub row : {W : Type 0} → (W → ℕ → ℕ → ℕ) → W → ℕ → List ℕ
-row cell w k = map (cell w k) (range_with_len 0 8)
+unfoldable pub bit_row : {W : Type 0} → (W → ℕ → ℕ → ℕ) → W → ℕ → List ℕ
+bit_row cell w k = map (cell w k) (range_with_len 0 8)
 
 -- of two rows, cut into groups of s bits: the groups with even numbers, each of the first row's and
 -- then the second's
@@ -21,12 +22,12 @@ odd_groups s x y =
     (range_with_len 0 8)
 
 -- word q of eight
-abbrev pub word_at : {W : Type 0} → Planes W → ℕ → W
-word_at x zero = x.b0
-word_at x (suc zero) = x.b1
-word_at x (suc (suc zero)) = x.b2
-word_at x (suc (suc (suc zero))) = x.b3
-word_at x (suc (suc (suc (suc zero)))) = x.b4
-word_at x (suc (suc (suc (suc (suc zero))))) = x.b5
-word_at x (suc (suc (suc (suc (suc (suc zero)))))) = x.b6
-word_at x (suc (suc (suc (suc (suc (suc (suc q))))))) = x.b7
+abbrev pub plane_word : {W : Type 0} → Planes W → ℕ → W
+plane_word x zero = x.b0
+plane_word x (suc zero) = x.b1
+plane_word x (suc (suc zero)) = x.b2
+plane_word x (suc (suc (suc zero))) = x.b3
+plane_word x (suc (suc (suc (suc zero)))) = x.b4
+plane_word x (suc (suc (suc (suc (suc zero))))) = x.b5
+plane_word x (suc (suc (suc (suc (suc (suc zero)))))) = x.b6
+plane_word x (suc (suc (suc (suc (suc (suc (suc q))))))) = x.b7

@@ -12,7 +12,7 @@
 ghost use Rattle.std.specs.Prelude.{◌≡◌, ℕ, ◌∷◌, [], bit_xor};
 ghost use Rattle.cipher_spec.specs.Aes.{sub_byte};
 ghost use Rattle.plane_core.specs.Bits.{byte_of};
-ghost use Rattle.plane_core.specs.Circuit.{head, inner, tail};
+ghost use Rattle.plane_core.specs.Circuit.{circuit_head, inner, tail};
 
 use crate::plane::Plane;
 use crate::planes::Planes;
@@ -28,11 +28,12 @@ struct Waist<P> {
 
 /// The first 46 gates: t21 to t24.
 #[inline(always)]
-#[tactic(auto, unfolding(crate::specs::Circuit::head))]
+#[tactic(auto, unfolding(crate::specs::Circuit::circuit_head))]
 fn head<P: Plane>(x: &Planes<P>) -> Waist<P>
     ensures { (j b : ℕ) → (P.bit result.a j b ∷ P.bit result.b j b ∷ P.bit result.c j b ∷ P.bit
         result.d j b ∷ [])
-        ≡ head (P.bit x.now.b7 j b) (P.bit x.now.b6 j b) (P.bit x.now.b5 j b) (P.bit x.now.b4 j b)
+        ≡ circuit_head (P.bit x.now.b7 j b) (P.bit x.now.b6 j b) (P.bit x.now.b5 j b)
+        (P.bit x.now.b4 j b)
         (P.bit x.now.b3 j b) (P.bit x.now.b2 j b) (P.bit x.now.b1 j b) (P.bit x.now.b0 j b) }
 {
     let x0 = x.b7;

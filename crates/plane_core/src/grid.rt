@@ -3,7 +3,7 @@
 ghost use Rattle.std.specs.Prelude.{◌≡◌, ℕ, ◌+◌, ◌*◌, ◌%◌, ◌<◌, map, slice_index};
 ghost use Rattle.std.specs.List.{range_with_len};
 ghost use Rattle.std.specs.Int.{bit_at};
-ghost use Rattle.plane_core.specs.Grid.{even_groups, odd_groups, row, word_at};
+ghost use Rattle.plane_core.specs.Grid.{even_groups, odd_groups, bit_row, plane_word};
 
 use crate::planes::Planes;
 use std::simd::prelude::*;
@@ -25,24 +25,24 @@ pub trait Grid: Copy {
 
     /// Groups of one bit.
     fn ones(self, other: Self) -> Pair<Self>
-        ensures low { (k : ℕ) → row cell result.low k ≡ even_groups 1 (row cell self k)
-            (row cell other k) }
-        ensures high { (k : ℕ) → row cell result.high k ≡ odd_groups 1 (row cell self k)
-            (row cell other k) };
+        ensures low { (k : ℕ) → bit_row cell result.low k ≡ even_groups 1 (bit_row cell self k)
+            (bit_row cell other k) }
+        ensures high { (k : ℕ) → bit_row cell result.high k ≡ odd_groups 1 (bit_row cell self k)
+            (bit_row cell other k) };
 
     /// Groups of two bits.
     fn twos(self, other: Self) -> Pair<Self>
-        ensures low { (k : ℕ) → row cell result.low k ≡ even_groups 2 (row cell self k)
-            (row cell other k) }
-        ensures high { (k : ℕ) → row cell result.high k ≡ odd_groups 2 (row cell self k)
-            (row cell other k) };
+        ensures low { (k : ℕ) → bit_row cell result.low k ≡ even_groups 2 (bit_row cell self k)
+            (bit_row cell other k) }
+        ensures high { (k : ℕ) → bit_row cell result.high k ≡ odd_groups 2 (bit_row cell self k)
+            (bit_row cell other k) };
 
     /// Groups of four bits.
     fn fours(self, other: Self) -> Pair<Self>
-        ensures low { (k : ℕ) → row cell result.low k ≡ even_groups 4 (row cell self k)
-            (row cell other k) }
-        ensures high { (k : ℕ) → row cell result.high k ≡ odd_groups 4 (row cell self k)
-            (row cell other k) };
+        ensures low { (k : ℕ) → bit_row cell result.low k ≡ even_groups 4 (bit_row cell self k)
+            (bit_row cell other k) }
+        ensures high { (k : ℕ) → bit_row cell result.high k ≡ odd_groups 4 (bit_row cell self k)
+            (bit_row cell other k) };
 }
 
 // The odd groups of `self` change places with the even groups of `other`: a bit of each two that
@@ -146,8 +146,8 @@ impl Grid for u64 {
 /// in word i.
 #[inline(always)]
 pub fn transposed<W: Grid>(x: &Planes<W>) -> Planes<W>
-    ensures { (q k : ℕ) → q < 8 → row W.cell (word_at result q) k
-        ≡ map (λ i. slice_index (row W.cell (word_at x.now i) k) q) (range_with_len 0 8) }
+    ensures { (q k : ℕ) → q < 8 → bit_row W.cell (plane_word result q) k
+        ≡ map (λ i. slice_index (bit_row W.cell (plane_word x.now i) k) q) (range_with_len 0 8) }
 {
     let ones01 = x.b0.ones(x.b1);
     let ones23 = x.b2.ones(x.b3);

@@ -3,7 +3,8 @@
 ghost use Rattle.std.specs.Prelude.{◌≡◌, ℕ, ◌+◌, ◌*◌, ◌/◌, ◌%◌, ◌<◌, bit_and, bit_xor, slice_index};
 ghost use Rattle.std.specs.Int.{bit_at};
 ghost use Rattle.plane_core.specs.Bits.{bit_is_small};
-ghost use Rattle.plane_core.specs.Places.{below, lane, lane_bit, shifted, spot, turned, wide_bit, wide_lane, word_bit};
+ghost use Rattle.plane_core.specs.Places.{below, lane, lane_bit, shifted, spot, turned, wide_bit};
+ghost use Rattle.plane_core.specs.Places.{wide_lane, word_bit};
 
 use std::simd::prelude::*;
 

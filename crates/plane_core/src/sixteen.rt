@@ -1,6 +1,7 @@
 //! Sixteen blocks in planes of 32 bytes: eight in each half.
 
-ghost use Rattle.std.specs.Prelude.{◌≡◌, ℕ, ◌+◌, ◌%◌, ◌<◌, [], ◌++◌, length, map, slice_index, slice_index_or};
+ghost use Rattle.std.specs.Prelude.{◌≡◌, ℕ, ◌+◌, ◌%◌, ◌<◌, [], ◌++◌, length, map, slice_index};
+ghost use Rattle.std.specs.Prelude.{slice_index_or};
 ghost use Rattle.std.specs.List.{range_with_len};
 ghost use Rattle.plane_core.specs.Bits.{block};
 ghost use Rattle.plane_core.specs.Places.{lane, lane_bit, wide_bit};

@@ -6,7 +6,7 @@ use Rattle.esdk_fields.specs.Counts.{Stayed}
 use Rattle.context_codec.specs.Context.{KeyValue}
 use Rattle.edk_codec.specs.Entry.{Entry}
 use Rattle.keyring_trait.specs.Wrapping.{WrapKeyValue, wrap, made_under, made, ivs_of, unwrapped}
-use Rattle.keyring_trait.specs.Keyring.{WrappedValue, key_in, ivs_in, Wraps, OpensWith, Opens}
+use Rattle.keyring_trait.specs.Keyring.{WrappedValue, data_key_in, ivs_in, Wraps, OpensWith, Opens}
 use Rattle.keyring_trait.proofs.Wrapping.{unwraps_only_wraps}
 use Rattle.raw_aes_keyring.specs.Keyring.{raw_meaning}
 
@@ -24,7 +24,7 @@ one_made : (w : WrapKeyValue) (c : List KeyValue) (key bytes : List ℕ) → w.r
 one_made w c key bytes active = ap (λ (b : Bool). made_under (if not b then w ∷ [] else []) c key (ivs_of (if b then 0 else 1) bytes)) active
 
 -- one wrap is what a keyring of one key makes
-pub wraps_one : (w : WrapKeyValue) (c : List KeyValue) (random : List ℕ) (handed : Option (List ℕ)) (wrapped : WrappedValue) (iv : List ℕ) → w.retired ≡ false → wrapped.key ≡ key_in handed random
+pub wraps_one : (w : WrapKeyValue) (c : List KeyValue) (random : List ℕ) (handed : Option (List ℕ)) (wrapped : WrappedValue) (iv : List ℕ) → w.retired ≡ false → wrapped.key ≡ data_key_in handed random
     → iv ≡ ivs_in handed random → length iv ≡ 12 → wrapped.entries ≡ wrap w c iv wrapped.key ∷ [] → Wraps (raw_meaning w) c random handed wrapped
 wraps_one w c random handed wrapped iv active key iv_is twelve entries =
     let first : iv ≡ take 12 (ivs_in handed random) = sym (take_all 12 iv (omega (arith, twelve))) ∙ ap (take 12) iv_is in
@@ -35,6 +35,6 @@ wraps_one w c random handed wrapped iv active key iv_is twelve entries =
     }
 
 -- no wrap is what a keyring of a retired key makes
-pub wraps_none : (w : WrapKeyValue) (c : List KeyValue) (random : List ℕ) (handed : Option (List ℕ)) (wrapped : WrappedValue) → w.retired ≡ true → wrapped.key ≡ key_in handed random
+pub wraps_none : (w : WrapKeyValue) (c : List KeyValue) (random : List ℕ) (handed : Option (List ℕ)) (wrapped : WrappedValue) → w.retired ≡ true → wrapped.key ≡ data_key_in handed random
     → wrapped.entries ≡ [] → Wraps (raw_meaning w) c random handed wrapped
 wraps_none w c random handed wrapped retired key entries = record { key = key; count = rw retired (ap length entries); told = rw retired entries }

@@ -3,7 +3,7 @@
 
 ghost use Rattle.std.specs.Prelude.{◌≡◌, length, is_some};
 ghost use Rattle.std.specs.Option.{option_copied};
-ghost use Rattle.keyring_trait.specs.Keyring.{wanted, key_in, ivs_in};
+ghost use Rattle.keyring_trait.specs.Keyring.{wanted, data_key_in, ivs_in};
 ghost use Rattle.raw_aes_keyring.specs.Keyring.{raw_meaning};
 
 use crate::raw_aes::RawAes;
@@ -67,7 +67,7 @@ impl Keyring for RawAes {
 /// IV, which is the 12 bytes that are left.
 fn key_and_iv(random: &[u8], key: Option<&DataKey>) -> (DataKey, [u8; 12])
     requires { length random.now ≡ wanted (is_some key) 1 }
-    ensures key { result.0 ≡ key_in (option_copied key.entry) random.now }
+    ensures key { result.0 ≡ data_key_in (option_copied key.entry) random.now }
     ensures iv { result.1 ≡ ivs_in (option_copied key.entry) random.now }
 {
     match key {

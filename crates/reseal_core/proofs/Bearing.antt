@@ -15,9 +15,9 @@ use Rattle.esdk_encrypt.proofs.Asking.{bears_given}
 use Rattle.reseal_core.specs.declared.errors.InputError.{InputError}
 use Rattle.reseal_core.specs.declared.resealer.Resealer.{Resealer}
 use Rattle.reseal_core.specs.NewMessage.{IsFedText}
-use Rattle.reseal_core.specs.Session.{ResealingValue, gone_on, new_session, text_so_far}
+use Rattle.reseal_core.specs.Session.{ResealingValue, gone_on, new_resealing_session, text_so_far}
 use Rattle.reseal_core.specs.Stands.{BearsMade, BearsUpTo, Stands}
-use Rattle.reseal_core.specs.Underway.{Concludes, Reached}
+use Rattle.reseal_core.specs.Underway.{ConcludesResealing, Reached}
 
 -- ---- one call
 
@@ -100,14 +100,14 @@ module _ (first mid new : ManagerNow) (now : ℕ) (resealer : Resealer) (v : Res
 
 -- what a step bears that fed more bytes
 pub made_fed : {A B : Type 0} (opened : A → ManagerNow) (sealed : B → ManagerNow) (now : ℕ) (settings : Settings) (given : List KeyValue) (size : ℕ) (random bytes more : List ℕ) (old new last : A) (before after end : B)
-    (output put now_put : SinkState) (resealer next : Resealer) → Reached opened sealed now (new_session settings given size random) bytes old new before after output put resealer
-    → Reached opened sealed now (new_session settings given size random) more old last before end output now_put next
+    (output put now_put : SinkState) (resealer next : Resealer) → Reached opened sealed now (new_resealing_session settings given size random) bytes old new before after output put resealer
+    → Reached opened sealed now (new_resealing_session settings given size random) more old last before end output now_put next
     → BearsMade (sealed before) (sealed after) now false (is_some resealer.message.sealer)
     → ((v w : ResealingValue) → Stands resealer v → v.stopped ≡ false → Stands next w → BearsMade (sealed after) (sealed end) now (is_some v.materials) (is_some w.materials))
     → BearsMade (sealed before) (sealed end) now false (is_some next.message.sealer)
 made_fed opened sealed now settings given size random bytes more old new last before after end output put now_put resealer next r s made bears =
-    let v : ResealingValue = gone_on (new_session settings given size random) r.fed.session r.materials in
-    let w : ResealingValue = gone_on (new_session settings given size random) s.fed.session s.materials in
+    let v : ResealingValue = gone_on (new_resealing_session settings given size random) r.fed.session r.materials in
+    let w : ResealingValue = gone_on (new_resealing_session settings given size random) s.fed.session s.materials in
     made_on (sealed before) (sealed after) (sealed end) now resealer v r.stands refl made next w s.stands refl (bears v w r.stands refl s.stands)
 
 -- ---- the run
@@ -118,7 +118,7 @@ module _ (old new : ManagerNow) (now : ℕ) (resealer : Resealer) (v : Resealing
   written_bears m is =
       subst (λ (o : Option EncMaterialsValue). BearsMade old new now false (is_some o)) is (subst (λ (b : Bool). BearsMade old new now false b) (begun_is resealer v stands going) made)
 
-  pub concludes_bears : (end : End) (r : Result (List KeyValue) InputError) → Concludes v put last end r → BearsAtMostOne old new now None r
+  pub concludes_bears : (end : End) (r : Result (List KeyValue) InputError) → ConcludesResealing v put last end r → BearsAtMostOne old new now None r
   concludes_bears ends.Seen (Ok context) ((whole, (m, is, written)), has) = written_bears m is
   concludes_bears ends.Failed (Ok context) none = absurd none
   concludes_bears ends.TooLong (Ok context) none = absurd none

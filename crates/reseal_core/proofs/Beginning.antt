@@ -12,14 +12,14 @@ use Rattle.stream_seal.specs.declared.session.Sealer.{Sealer}
 use Rattle.reseal_core.specs.declared.errors.ResealError.{ResealError}
 use Rattle.reseal_core.specs.declared.new_message.NewMessage.{NewMessage}
 use Rattle.reseal_core.specs.Front.{front_of}
-use Rattle.reseal_core.specs.NewMessage.{BeginsAs, IsFedText, IsWritten}
+use Rattle.reseal_core.specs.NewMessage.{NewMessageBeginsAs, IsFedText, IsWritten}
 use Rattle.reseal_core.specs.Session.{HoldsOnly}
-use Rattle.reseal_core.specs.Stands.{BeginsNot, BeginsWhereDue, IsOpen}
+use Rattle.reseal_core.specs.Stands.{NewMessageBeginsNot, BeginsWhereDue, OldMessageIsOpen}
 use Rattle.reseal_core.proofs.Stepping.{gains_none}
 use Rattle.reseal_core.proofs.Unlocked.{OpenWith, open_with}
 
 -- the pairs with which a message is open
-pub open_held : (opening : OpeningValue) (whole only : List KeyValue) → IsOpen opening whole only → HoldsOnly opening.answer → AllHeld whole (keys_of only)
+pub open_held : (opening : OpeningValue) (whole only : List KeyValue) → OldMessageIsOpen opening whole only → HoldsOnly opening.answer → AllHeld whole (keys_of only)
 open_held opening whole only is held = subst HoldsOnly is.answer held
 
 module _ (saying : Saying) (now size : ℕ) (random text : List ℕ) (opening : OpeningValue) (unasked : Type 0) (message : NewMessage) where
@@ -64,7 +64,7 @@ module _ (saying : Saying) (now size : ℕ) (random text : List ℕ) (opening : 
       })
 
   module _ (m : Option EncMaterialsValue) (whole only : List KeyValue) (old new : SinkState) (unwritten : Type 0) (next : NewMessage) (none : is_some message.sealer ≡ false) (written : IsWritten message size random m text)
-      (open_is : IsOpen opening whole only) where
+      (open_is : OldMessageIsOpen opening whole only) where
     is_none : m ≡ None
     is_none = none_fed m message.sealer none written.fed
 
@@ -72,7 +72,7 @@ module _ (saying : Saying) (now size : ℕ) (random text : List ℕ) (opening : 
     written_none = subst (λ (y : Option EncMaterialsValue). IsWritten message size random y text) is_none written
 
     -- it is due, and was begun
-    begun_now : BeginsAs saying now whole only size random old new unwritten next (Ok tt) → BeginsWhereDue m saying now size random text opening old new unasked next
+    begun_now : NewMessageBeginsAs saying now whole only size random old new unwritten next (Ok tt) → BeginsWhereDue m saying now size random text opening old new unasked next
     begun_now b =
         let nothing : text ≡ [] = none_text message.sealer written_none.fed in
         subst (λ (y : Option EncMaterialsValue). BeginsWhereDue y saying now size random text opening old new unasked next) (sym is_none)
@@ -84,16 +84,16 @@ module _ (saying : Saying) (now size : ℕ) (random text : List ℕ) (opening : 
         }))
 
     -- or wasn't
-    not_begun : (error : ResealError) → BeginsAs saying now whole only size random old new unwritten next (Err error) → BeginsNot m saying now size random opening old new unwritten error
+    not_begun : (error : ResealError) → NewMessageBeginsAs saying now whole only size random old new unwritten next (Err error) → NewMessageBeginsNot m saying now size random opening old new unwritten error
     not_begun error why = record { none = is_none; whole = whole; only = only; opened = open_is; why = why }
 
-    pub begun_as : (r : Result (Unit {0}) ResealError) → (IsWritten message size random None text → BeginsAs saying now whole only size random old new unwritten next r)
+    pub begun_as : (r : Result (Unit {0}) ResealError) → (IsWritten message size random None text → NewMessageBeginsAs saying now whole only size random old new unwritten next r)
         → IfOk r (λ done. BeginsWhereDue m saying now size random text opening old new unasked next)
     begun_as (Ok done) begins = begun_now (begins written_none)
     begun_as (Err error) begins = tt
 
-    pub not_begun_as : (r : Result (Unit {0}) ResealError) → (IsWritten message size random None text → BeginsAs saying now whole only size random old new unwritten next r)
-        → IfErr r (BeginsNot m saying now size random opening old new unwritten)
+    pub not_begun_as : (r : Result (Unit {0}) ResealError) → (IsWritten message size random None text → NewMessageBeginsAs saying now whole only size random old new unwritten next r)
+        → IfErr r (NewMessageBeginsNot m saying now size random opening old new unwritten)
     not_begun_as (Ok done) begins = tt
     not_begun_as (Err error) begins = not_begun error (begins written_none)
 

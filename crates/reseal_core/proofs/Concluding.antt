@@ -14,27 +14,27 @@ use Rattle.keyring_trait.specs.Saying.{said_last}
 use Rattle.keyring_trait.specs.Unlocking.{Unlocking, Unlocks}
 use Rattle.message_format.specs.Judgement.{Judged, content, judged}
 use Rattle.stream_open.specs.Session.{OpeningValue, answer_kept, judged_now}
-use Rattle.stream_seal.specs.Start.{message_of}
+use Rattle.stream_seal.specs.Start.{message_of, drawn_id}
 use Rattle.whole_input.specs.declared.pieces.End.{End}
 use Rattle.whole_input.specs.declared.pieces.End.TheVariants as ends
 use Rattle.whole_input.specs.Written.{WritesBeyond}
-use Rattle.esdk_encrypt.specs.Encrypt.{Drew, drawn_id, written_so_far}
+use Rattle.esdk_encrypt.specs.Encrypt.{Drew, written_so_far}
 use Rattle.esdk_decrypt.specs.Decrypt.{AnswersTo, HasContext, answering_of, fault_at_end, fault_of}
 use Rattle.esdk_decrypt.proofs.Concluding.{memory_first as lacks_first}
 use Rattle.reseal_core.specs.declared.errors.InputError.{InputError}
 use Rattle.reseal_core.specs.declared.errors.InputError.TheVariants as errors
 use Rattle.reseal_core.specs.declared.errors.ResealError.TheVariants as reseals
 use Rattle.reseal_core.specs.declared.resealer.Resealer.{Resealer}
-use Rattle.reseal_core.specs.Reseal.{EndsSo, Passes, Reseals, ResealEnds, Resealing, ResealsInput, resealing_from}
-use Rattle.reseal_core.specs.Session.{ResealingValue, gone_on, new_session}
-use Rattle.reseal_core.specs.Underway.{AreMade, Concludes, ConcludesSo, IsFedInput, IsMade}
+use Rattle.reseal_core.specs.Reseal.{ResealEndsSo, Passes, Reseals, ResealEnds, Resealing, ResealsInput, resealing_from}
+use Rattle.reseal_core.specs.Session.{ResealingValue, gone_on, new_resealing_session}
+use Rattle.reseal_core.specs.Underway.{AreMade, ConcludesResealing, ConcludesSo, IsFedInput, IsMade}
 use Rattle.reseal_core.proofs.Stepping.{writes_beyond}
 use Rattle.reseal_core.proofs.Reaching.{answer, answer_kept_is, answers, has_gained, has_room, passes, same, sound}
 
 module _ {A B : Type 0} (opened : A → ManagerNow) (sealed : B → ManagerNow) (now : ℕ) (settings : Settings) (given : List KeyValue) (size : ℕ) (random : List ℕ) (input taken : SourceState) (old new : A) (before after : B)
     (output put : SinkState) (resealer : Resealer) where
   abbrev v0 : ResealingValue
-  v0 = new_session settings given size random
+  v0 = new_resealing_session settings given size random
 
   abbrev asked : Resealing
   asked = resealing_from (opened old) (opened new) (sealed before) (sealed after) now settings given size
@@ -104,7 +104,7 @@ module _ {A B : Type 0} (opened : A → ManagerNow) (sealed : B → ManagerNow) 
                 (Appends-trans output.written put.written last.written _ finishes.given gained.gained finishes.taken.gained));
           })
 
-      pub final_fails : ConcludesSo v put last (Err reseals.SinkFault) → EndsSo asked random input taken output last (errors.Outside outsides.SinkFault)
+      pub final_fails : ConcludesSo v put last (Err reseals.SinkFault) → ResealEndsSo asked random input taken output last (errors.Outside outsides.SinkFault)
       final_fails (whole, (m, e, failed)) =
           let mine = made m e in
           let here = unlocked m mine in
@@ -126,7 +126,7 @@ module _ {A B : Type 0} (opened : A → ManagerNow) (sealed : B → ManagerNow) 
             }),
           )
 
-      pub ends_faulty : (fault : _) → fault_at_end (judged_now w).verdict ≡ Some fault → EndsSo asked random input taken output put (errors.Fault fault)
+      pub ends_faulty : (fault : _) → fault_at_end (judged_now w).verdict ≡ Some fault → ResealEndsSo asked random input taken output put (errors.Fault fault)
       ends_faulty fault at = record {
         bytes = fed.bytes;
         answer = is;
@@ -139,16 +139,16 @@ module _ {A B : Type 0} (opened : A → ManagerNow) (sealed : B → ManagerNow) 
   -- ---- whatever ended it
 
   pub concludes_ok : (end : End) (fed : IsFedInput opened sealed now v0 input taken old new before after output put end resealer) (last : SinkState) (context : List KeyValue)
-      → Concludes (gone_on v0 fed.reached.fed.session fed.reached.materials) put last end (Ok context) → Reseals asked random input taken output last context
+      → ConcludesResealing (gone_on v0 fed.reached.fed.session fed.reached.materials) put last end (Ok context) → Reseals asked random input taken output last context
   concludes_ok ends.Seen fed last context (so, has) = whole_resealed ends.Seen fed last refl context so has
   concludes_ok ends.Failed fed last context none = absurd none
   concludes_ok ends.TooLong fed last context none = absurd none
 
-  at_last : (last : SinkState) (error : InputError) → last ≡ put → EndsSo asked random input taken output put error → EndsSo asked random input taken output last error
-  at_last last error same ends = subst (λ (x : SinkState). EndsSo asked random input taken output x error) (sym same) ends
+  at_last : (last : SinkState) (error : InputError) → last ≡ put → ResealEndsSo asked random input taken output put error → ResealEndsSo asked random input taken output last error
+  at_last last error same ends = subst (λ (x : SinkState). ResealEndsSo asked random input taken output x error) (sym same) ends
 
   pub concludes_err : (end : End) (fed : IsFedInput opened sealed now v0 input taken old new before after output put end resealer) (last : SinkState) (error : InputError)
-      → Concludes (gone_on v0 fed.reached.fed.session fed.reached.materials) put last end (Err error) → EndsSo asked random input taken output last error
+      → ConcludesResealing (gone_on v0 fed.reached.fed.session fed.reached.materials) put last end (Err error) → ResealEndsSo asked random input taken output last error
   concludes_err ends.Seen fed last (errors.Fault fault) (at, same) = at_last last (errors.Fault fault) same (ends_faulty ends.Seen fed last refl fault at)
   concludes_err ends.Seen fed last (errors.Outside outsides.SinkFault) so = final_fails ends.Seen fed last refl so
   concludes_err ends.Seen fed last (errors.Outside outside) none = absurd none
@@ -173,35 +173,35 @@ module _ {A B : Type 0} (opened : A → ManagerNow) (sealed : B → ManagerNow) 
 
 module _ (asked : Resealing) (input taken : SourceState) (output put : SinkState) (entropy spent : EntropyState) (untouched unasked : Type 0) where
   -- bytes were drawn, and then the run ended so
-  pub ends_drawn : (drawn : List ℕ) → Drew asked.wraps entropy spent drawn → (error : InputError) → EndsSo asked drawn input taken output put error → ResealEnds asked input taken output put entropy spent untouched unasked error
+  pub ends_drawn : (drawn : List ℕ) → Drew asked.wraps entropy spent drawn → (error : InputError) → ResealEndsSo asked drawn input taken output put error → ResealEnds asked input taken output put entropy spent untouched unasked error
   ends_drawn drawn drew (errors.Fault fault) ends = record { drawn = drawn; drew = drew; is = ends }
   ends_drawn drawn drew (errors.Refusal refusal) ends = record { drawn = drawn; drew = drew; is = ends }
   ends_drawn drawn drew (errors.Outside outsides.EntropyFault) ends = absurd ends
   ends_drawn drawn drew (errors.Outside outside) ends = record { drawn = drawn; drew = drew; is = ends }
   ends_drawn drawn drew errors.Memory ends = record { drawn = drawn; drew = drew; is = ends }
 
-  pub ends_with : {T : Type 0} (drawn : List ℕ) → Drew asked.wraps entropy spent drawn → (r : Result T InputError) → IfErr r (EndsSo asked drawn input taken output put)
+  pub ends_with : {T : Type 0} (drawn : List ℕ) → Drew asked.wraps entropy spent drawn → (r : Result T InputError) → IfErr r (ResealEndsSo asked drawn input taken output put)
       → IfErr r (ResealEnds asked input taken output put entropy spent untouched unasked)
   ends_with drawn drew (Ok done) ends = tt
   ends_with drawn drew (Err error) ends = ends_drawn drawn drew error ends
 
 -- memory may run out before anything is read
 pub memory_first : (opened opening sealed sealing : ManagerNow) (now : ℕ) (settings : Settings) (given : List KeyValue) (size : ℕ) (drawn : List ℕ) (input : SourceState) (output : SinkState)
-    → EndsSo (resealing_from opened opening sealed sealing now settings given size) drawn input input output output errors.Memory
+    → ResealEndsSo (resealing_from opened opening sealed sealing now settings given size) drawn input input output output errors.Memory
 memory_first opened opening sealed sealing now settings given size drawn input output =
     record { lacks = lacks_first (said_last opened opening) now settings given input; written = inl (takes_none output) }
 
 -- ---- results
 
 module _ {A B : Type 0} (opened : A → ManagerNow) (sealed : B → ManagerNow) (now : ℕ) (settings : Settings) (given : List KeyValue) (size : ℕ) (random : List ℕ) (input taken : SourceState) (old new : A) (before after : B)
-    (output put : SinkState) (entropy spent : EntropyState) (resealer : Resealer) (end : End) (fed : IsFedInput opened sealed now (new_session settings given size random) input taken old new before after output put end resealer)
+    (output put : SinkState) (entropy spent : EntropyState) (resealer : Resealer) (end : End) (fed : IsFedInput opened sealed now (new_resealing_session settings given size random) input taken old new before after output put end resealer)
     (last : SinkState) (drew : Drew (sealed before).meaning.wraps entropy spent random) where
-  pub done_as : (r : Result (List KeyValue) InputError) → Concludes (gone_on (new_session settings given size random) fed.reached.fed.session fed.reached.materials) put last end r
+  pub done_as : (r : Result (List KeyValue) InputError) → ConcludesResealing (gone_on (new_resealing_session settings given size random) fed.reached.fed.session fed.reached.materials) put last end r
       → IfOk r (ResealsInput (resealing_from (opened old) (opened new) (sealed before) (sealed after) now settings given size) input taken output last entropy spent)
   done_as (Ok context) so = record { drawn = random; drew = drew; is = concludes_ok opened sealed now settings given size random input taken old new before after output put resealer end fed last context so }
   done_as (Err error) so = tt
 
-  pub ended_as : (untouched unasked : Type 0) (r : Result (List KeyValue) InputError) → Concludes (gone_on (new_session settings given size random) fed.reached.fed.session fed.reached.materials) put last end r
+  pub ended_as : (untouched unasked : Type 0) (r : Result (List KeyValue) InputError) → ConcludesResealing (gone_on (new_resealing_session settings given size random) fed.reached.fed.session fed.reached.materials) put last end r
       → IfErr r (ResealEnds (resealing_from (opened old) (opened new) (sealed before) (sealed after) now settings given size) input taken output last entropy spent untouched unasked)
   ended_as untouched unasked (Ok context) so = tt
   ended_as untouched unasked (Err error) so =

@@ -5,7 +5,7 @@ use Rattle.context_codec.specs.Context.{KeyValue}
 use Rattle.header_codec.specs.declared.settings.Settings.{Settings}
 use Rattle.keyring_trait.specs.Manager.{ManagerNow}
 use Rattle.stream_open.specs.Session.{OpeningValue}
-use Rattle.stream_open.specs.Session.{new_session as new_opening}
+use Rattle.stream_open.specs.Session.{new_opening_session as new_opening}
 use Rattle.stream_open.proofs.Feeding.{opened_goes}
 use Rattle.stream_open.proofs.PieceEnds.{whole_none}
 use Rattle.esdk_base.specs.Streams.{SinkState, SourceState}
@@ -13,10 +13,11 @@ use Rattle.whole_input.specs.declared.pieces.End.{End}
 use Rattle.whole_input.specs.Pieces.{PiecesValue}
 use Rattle.whole_input.specs.Taken.{Came}
 use Rattle.esdk_base.specs.ReceiverLaws.{takes_none}
-use Rattle.esdk_decrypt.specs.Underway.{InputEnds, PutsAll}
+use Rattle.esdk_base.specs.Receiver.{PutsAll}
+use Rattle.esdk_decrypt.specs.Underway.{NoMoreCame}
 use Rattle.esdk_decrypt.proofs.Pieces.{CameWell, well_ends, well_more}
 use Rattle.reseal_core.specs.declared.resealer.Resealer.{Resealer}
-use Rattle.reseal_core.specs.Session.{new_session}
+use Rattle.reseal_core.specs.Session.{new_resealing_session}
 use Rattle.reseal_core.specs.Stands.{Stands}
 use Rattle.reseal_core.specs.Underway.{Reached, UnfedAs}
 use Rattle.reseal_core.proofs.Reaching.{untold}
@@ -54,7 +55,7 @@ is_unfed first input taken old new fed from bytes few well (inr (all, from_is, n
 
 -- why no more came
 pub input_ends : (first input taken : SourceState) (old new : PiecesValue) (fed : ℕ) (bytes : List ℕ) (end : End) → CameWell first input old.taken (bytes ++ drop fed old.piece) → UnfedAs old fed input taken new (Err end)
-    → Came first taken bytes × InputEnds first taken bytes end
+    → Came first taken bytes × NoMoreCame first taken bytes end
 input_ends first input taken old new fed bytes end well (all, next) =
     well_ends first input taken old.taken bytes new end (subst (λ (b : List ℕ). CameWell first input old.taken b) (all_fed bytes old.piece fed all) well) next
 
@@ -77,8 +78,8 @@ module _ {A B : Type 0} (opened : A → ManagerNow) (sealed : B → ManagerNow) 
   abbrev v : OpeningValue
   v = new_opening settings given
 
-  pub reached_none : (opening : A) (sealing : B) (output : SinkState) (resealer : Resealer) → Stands resealer (new_session settings given size random)
-      → Reached opened sealed now (new_session settings given size random) [] opening opening sealing sealing output output resealer
+  pub reached_none : (opening : A) (sealing : B) (output : SinkState) (resealer : Resealer) → Stands resealer (new_resealing_session settings given size random)
+      → Reached opened sealed now (new_resealing_session settings given size random) [] opening opening sealing sealing output output resealer
   reached_none opening sealing output resealer stands = record {
     text = [];
     fed = (whole_none opened (PutsAll (λ (x : SinkState). x)) now v opening untold resealer.opener (opened_goes settings given) stands.opener (λ x. takes_none x)).fed;

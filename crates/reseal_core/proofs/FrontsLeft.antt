@@ -9,16 +9,16 @@ use Rattle.body_format.specs.declared.verdicts.Verdict.TheVariants.{Going, Whole
 use Rattle.message_format.specs.Judgement.{judged}
 use Rattle.message_format.proofs.Following.{fronts_go_on, judged_goes_on}
 use Rattle.stream_seal.specs.Session.{SealingValue, held, under_of}
-use Rattle.stream_seal.specs.Start.{message_of}
+use Rattle.stream_seal.specs.Start.{message_of, drawn_id}
 use Rattle.stream_seal.proofs.Feeding.{last_held}
-use Rattle.esdk_encrypt.specs.Encrypt.{drawn_id, written_so_far}
-use Rattle.esdk_encrypt.specs.Writing.{session_of}
+use Rattle.esdk_encrypt.specs.Encrypt.{written_so_far}
+use Rattle.esdk_encrypt.specs.Writing.{sealing_of_text}
 use Rattle.esdk_encrypt.proofs.Sessions.{given_is}
 use Rattle.reseal_core.specs.Front.{front_of}
 
 module _ (m : EncMaterialsValue) (size : ℕ) (random text : List ℕ) (wide : 1 ≤ size) where
   abbrev v : SealingValue
-  v = session_of m size (drawn_id random) text
+  v = sealing_of_text m size (drawn_id random) text
 
   abbrev pub last : List ℕ
   last = final_frame (under_of v) (v.handed + 1) (held v)

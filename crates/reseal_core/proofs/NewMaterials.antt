@@ -13,15 +13,14 @@ use Rattle.keyring_trait.proofs.Back.{ivs_are}
 use Rattle.keyring_trait.proofs.Made.{length-made}
 use Rattle.message_format.specs.Message.{IsWritable}
 use Rattle.message_format.specs.Laws.{IsWithinLimits}
-use Rattle.stream_seal.specs.Start.{start_refusal}
-use Rattle.esdk_encrypt.specs.Encrypt.{drawn_id, drawn_rest}
-use Rattle.esdk_encrypt.specs.Told.{materials_of}
+use Rattle.stream_seal.specs.Start.{start_refusal, drawn_id, drawn_rest}
+use Rattle.esdk_encrypt.specs.Told.{drawn_materials}
 use Rattle.reseal_core.specs.Front.{AreSound}
-use Rattle.reseal_core.specs.Laws.{IsAllowed, new_writer}
+use Rattle.reseal_core.specs.Laws.{NewMessageIsAllowed, new_writer}
 
 module _ (keys : List WrapKeyValue) (sealing : ManagerMeaning) (size : ℕ) (drawn : List ℕ) (whole only : List KeyValue) where
   abbrev pub materials : EncMaterialsValue
-  materials = materials_of (new_writer keys sealing size whole only) (drawn_rest drawn)
+  materials = drawn_materials (new_writer keys sealing size whole only) (drawn_rest drawn)
 
   -- What is known of them, and of a text that a message has room for.
   pub record CanSeal (text : List ℕ) : Type 0 where
@@ -58,7 +57,7 @@ module _ (keys : List WrapKeyValue) (sealing : ManagerMeaning) (size : ℕ) (dra
     }
 
     -- a reader's limits that so many entries keep, this message keeps
-    pub limits_of_count : (settings : Settings) → IsAllowed settings size (length (active keys)) → IsWithinLimits settings size materials.entries
+    pub limits_of_count : (settings : Settings) → NewMessageIsAllowed settings size (length (active keys)) → IsWithinLimits settings size materials.entries
     limits_of_count settings allowed = record {
       max_keys = subst (λ (n : ℕ). IfSome settings.max_keys (λ most. n ≤ most)) (sym (length-made keys whole materials.key (ivs_of (length (active keys)) (drop 32 (drawn_rest drawn))) have_ivs.enough)) allowed.max_keys;
       max_unit = allowed.max_unit;

@@ -5,6 +5,7 @@ use Rattle.esdk_base.specs.ReceiverLaws.{front_longer}
 use Rattle.esdk_base.specs.Sink.{AppendsFront}
 use Rattle.esdk_base.specs.Streams.{SinkState}
 use Rattle.esdk_base.specs.declared.receiver.FeedError.TheVariants as feeds
+use Rattle.esdk_base.specs.Receiver.{PutsAll}
 use Rattle.esdk_fields.specs.Counts.{Rose}
 use Rattle.context_codec.specs.Context.{KeyValue}
 use Rattle.context_codec.specs.Parts.{only_of}
@@ -18,20 +19,20 @@ use Rattle.message_format.proofs.WrittenHeads.{length-header_tag}
 use Rattle.stream_seal.specs.declared.errors.SealError.TheVariants as seals
 use Rattle.stream_seal.specs.declared.session.Sealer.{Sealer}
 use Rattle.stream_seal.specs.Feeding.{IsFeeding, fed_out}
-use Rattle.stream_seal.specs.Receiving.{FeedsPiece, Finishes}
-use Rattle.stream_seal.specs.Session.{SealingValue, finished}
+use Rattle.stream_seal.specs.Receiving.{FeedsSealerPiece, SealerFinishes}
+use Rattle.stream_seal.specs.Session.{SealingValue, sealing_finished}
 use Rattle.stream_seal.specs.Stands.{Stands}
-use Rattle.stream_seal.specs.Start.{message_of, most_text, start_of, start_refusal}
+use Rattle.stream_seal.specs.Start.{message_of, most_text, start_of, start_refusal, drawn_id, drawn_rest}
 use Rattle.stream_seal.proofs.Feeding.{finishes, is_feeding, refuses_piece}
-use Rattle.esdk_encrypt.specs.Encrypt.{drawn_id, drawn_rest, written_so_far}
-use Rattle.esdk_encrypt.specs.Writing.{Fed, session_of}
-use Rattle.esdk_encrypt.proofs.Input.{sink_fails, sink_takes}
+use Rattle.esdk_encrypt.specs.Encrypt.{written_so_far}
+use Rattle.esdk_encrypt.specs.Writing.{Fed, sealing_of_text}
+use Rattle.esdk_encrypt.proofs.Input.{sink_fails}
 use Rattle.esdk_encrypt.proofs.Sessions.{given_is, is_fed, names_frames, room_then, session_then, written_none, written_then}
 use Rattle.reseal_core.specs.declared.errors.ResealError.{ResealError}
 use Rattle.reseal_core.specs.declared.errors.ResealError.TheVariants as errors
 use Rattle.reseal_core.specs.declared.new_message.NewMessage.{NewMessage}
 use Rattle.reseal_core.specs.Front.{AreSound, front_of, request_for}
-use Rattle.reseal_core.specs.NewMessage.{AreGiven, Begins, FinishesAs, GivesNot, GoesOnAs, HeaderFails, IsFedText, IsNotBegun, IsRefused, IsWritten, put_as}
+use Rattle.reseal_core.specs.NewMessage.{MaterialsAreGiven, BeginsNewMessage, FinishesAs, ManagerGivesNoMaterials, NewMessageGoesOnAs, NewHeaderFails, IsFedText, IsNotBegun, IsRefused, IsWritten, put_as}
 
 -- ---- the beginning
 
@@ -50,7 +51,7 @@ gives_so saying now request rest random whole only m asked rest_is gives =
     subst (λ (r : List ℕ). saying.gives (request_for whole only) now r m) rest_is (subst (λ (r : EncRequestValue). saying.gives r now rest m) asked gives)
 
 -- none were given
-pub not_given : (saying : Saying) (now : ℕ) (random : List ℕ) (whole only : List KeyValue) (error : ResealError) → GivesNot saying whole only error ⊎ (error ≡ errors.Memory)
+pub not_given : (saying : Saying) (now : ℕ) (random : List ℕ) (whole only : List KeyValue) (error : ResealError) → ManagerGivesNoMaterials saying whole only error ⊎ (error ≡ errors.Memory)
     → IsNotBegun saying now random whole only error
 not_given saying now random whole only error (inl gives) = inl gives
 not_given saying now random whole only error (inr memory) = inr (inr memory)
@@ -66,10 +67,10 @@ not_started saying now random whole only m errors.KeyringFault gives sound none 
 not_started saying now random whole only m errors.SinkFault gives sound none = absurd none
 not_started saying now random whole only m errors.Stopped gives sound none = absurd none
 
-module _ (saying : Saying) (now : ℕ) (whole only : List KeyValue) (message : NewMessage) (size : ℕ) (random text : List ℕ) (m : EncMaterialsValue) (written : IsWritten message size random None text) (given : AreGiven saying now message.random whole only m)
+module _ (saying : Saying) (now : ℕ) (whole only : List KeyValue) (message : NewMessage) (size : ℕ) (random text : List ℕ) (m : EncMaterialsValue) (written : IsWritten message size random None text) (given : MaterialsAreGiven saying now message.random whole only m)
     (header : List ℕ) (header_is : header ≡ start_of m message.frame_length (drawn_id message.random)) where
-  given_so : AreGiven saying now random whole only m
-  given_so = subst (λ (r : List ℕ). AreGiven saying now r whole only m) written.random_is given
+  given_so : MaterialsAreGiven saying now random whole only m
+  given_so = subst (λ (r : List ℕ). MaterialsAreGiven saying now r whole only m) written.random_is given
 
   -- the header is all that is written before any text
   first : front_of (Some m) size random [] ≡ [] ++ header
@@ -77,7 +78,7 @@ module _ (saying : Saying) (now : ℕ) (whole only : List KeyValue) (message : N
       written_none m size (drawn_id random)
       ∙ sym (header_is ∙ ap (start_of m message.frame_length) (ap drawn_id written.random_is) ∙ ap (λ (n : ℕ). start_of m n (drawn_id random)) written.length_is)
 
-  pub header_fails : (old new : SinkState) → AppendsFront old.written new.written header → Rose old.faults new.faults → HeaderFails saying now whole only size random old new
+  pub header_fails : (old new : SinkState) → AppendsFront old.written new.written header → Rose old.faults new.faults → NewHeaderFails saying now whole only size random old new
   header_fails old new front rose = record {
     materials = m;
     given = given_so;
@@ -89,8 +90,8 @@ module _ (saying : Saying) (now : ℕ) (whole only : List KeyValue) (message : N
     };
   }
 
-  pub begins : (old new : SinkState) (sealer : Sealer) → Stands sealer (session_of m message.frame_length (drawn_id message.random) []) → Appends old.written new.written header → new.faults ≡ old.faults
-      → Begins saying now whole only size random old new (record message { sealer = Some sealer })
+  pub begins : (old new : SinkState) (sealer : Sealer) → Stands sealer (sealing_of_text m message.frame_length (drawn_id message.random) []) → Appends old.written new.written header → new.faults ≡ old.faults
+      → BeginsNewMessage saying now whole only size random old new (record message { sealer = Some sealer })
   begins old new sealer stands gained kept = record {
     materials = m;
     given = given_so;
@@ -99,8 +100,8 @@ module _ (saying : Saying) (now : ℕ) (whole only : List KeyValue) (message : N
       random_is = written.random_is;
       wide = written.wide;
       fed = (
-        subst (λ (n : ℕ). Stands sealer (session_of m n (drawn_id random) [])) written.length_is
-            (subst (λ (i : List ℕ). Stands sealer (session_of m message.frame_length i [])) (ap drawn_id written.random_is) stands),
+        subst (λ (n : ℕ). Stands sealer (sealing_of_text m n (drawn_id random) [])) written.length_is
+            (subst (λ (i : List ℕ). Stands sealer (sealing_of_text m message.frame_length i [])) (ap drawn_id written.random_is) stands),
         omega arith,
       );
     };
@@ -121,12 +122,12 @@ module _ {R : Type 0} (state : R → SinkState) (message : NewMessage) (old new 
 
   module _ (content : List ℕ) (size : ℕ) (random text : List ℕ) (m : EncMaterialsValue) (written : IsWritten message size random (Some m) text) (short : length text ≤ most_text size) where
     abbrev v : SealingValue
-    v = session_of m size (drawn_id random) text
+    v = sealing_of_text m size (drawn_id random) text
 
     between : written_so_far m size (drawn_id random) (take (most_text size) (text ++ content)) ≡ written_so_far m size (drawn_id random) text ++ fed_out v content
     between = sym (written_then m size (drawn_id random) text content written.wide short)
 
-    passes : (fed : Fed) → FeedsPiece (sink_takes state) (sink_fails state) v content before after new fed → GoesOnAs size random (Some m) text (text ++ content) (state before) (state after) next (put_as fed)
+    passes : (fed : Fed) → FeedsSealerPiece (PutsAll state) (sink_fails state) v content before after new fed → NewMessageGoesOnAs size random (Some m) text (text ++ content) (state before) (state after) next (put_as fed)
     passes (Ok done) f =
         let room = room_then m size (drawn_id random) text content written.wide short f.none in
         record {
@@ -168,36 +169,36 @@ module _ {R : Type 0} (state : R → SinkState) (message : NewMessage) (old new 
     passes (Err (feeds.Machine seals.Stopped)) f = absurd f
     passes (Err (feeds.Machine seals.Memory)) f = absurd f
 
-  pub passes_as : (content : List ℕ) (fed : Fed) → ((v : SealingValue) → Stands old v → IsFeeding v content → FeedsPiece (sink_takes state) (sink_fails state) v content before after new fed)
+  pub passes_as : (content : List ℕ) (fed : Fed) → ((v : SealingValue) → Stands old v → IsFeeding v content → FeedsSealerPiece (PutsAll state) (sink_fails state) v content before after new fed)
       → (size : ℕ) (random text : List ℕ) (m : Option EncMaterialsValue) → IsWritten message size random m text
-      → GoesOnAs size random m text (text ++ content) (state before) (state after) next (put_as fed)
+      → NewMessageGoesOnAs size random m text (text ++ content) (state before) (state after) next (put_as fed)
   passes_as content fed feeds size random text None written = absurd (not_begun size random text written)
   passes_as content fed feeds size random text (Some m) written =
       let at = stands_old size random text m written in
       passes content size random text m written at.1 fed
-      (feeds (session_of m size (drawn_id random) text) at.0
-      (is_feeding (session_of m size (drawn_id random) text) content (is_fed m size (drawn_id random) text written.wide at.1)))
+      (feeds (sealing_of_text m size (drawn_id random) text) at.0
+      (is_feeding (sealing_of_text m size (drawn_id random) text) content (is_fed m size (drawn_id random) text written.wide at.1)))
 
   -- ---- the end
 
   module _ (size : ℕ) (random text : List ℕ) (m : EncMaterialsValue) (written : IsWritten message size random (Some m) text) (short : length text ≤ most_text size) where
     abbrev w : SealingValue
-    w = session_of m size (drawn_id random) text
+    w = sealing_of_text m size (drawn_id random) text
 
-    whole : message_of m size (drawn_id random) text ≡ written_so_far m size (drawn_id random) text ++ (finished w).out
+    whole : message_of m size (drawn_id random) text ≡ written_so_far m size (drawn_id random) text ++ (sealing_finished w).out
     whole =
-        sym (ap (λ (g : List ℕ). g ++ (finished w).out) (sym (given_is m size (drawn_id random) text)) ∙ finishes w (is_fed m size (drawn_id random) text written.wide short))
+        sym (ap (λ (g : List ℕ). g ++ (sealing_finished w).out) (sym (given_is m size (drawn_id random) text)) ∙ finishes w (is_fed m size (drawn_id random) text written.wide short))
 
-    ends : (fed : Fed) → Finishes (sink_takes state) (sink_fails state) w before after fed → FinishesAs m size random text (state before) (state after) (put_as fed)
-    ends (Ok done) f = record { given = (finished w).out; between = whole; taken = f.1 }
-    ends (Err (feeds.Receiver failed)) f = record { given = (finished w).out; some = f.1; between = whole; failed = f.2 }
+    ends : (fed : Fed) → SealerFinishes (PutsAll state) (sink_fails state) w before after fed → FinishesAs m size random text (state before) (state after) (put_as fed)
+    ends (Ok done) f = record { given = (sealing_finished w).out; between = whole; taken = f.1 }
+    ends (Err (feeds.Receiver failed)) f = record { given = (sealing_finished w).out; some = f.1; between = whole; failed = f.2 }
     ends (Err (feeds.Machine seals.Stopped)) f = absurd (let no : false ≡ true = f.0 in cc)
     ends (Err (feeds.Machine (seals.Refusal refusal))) f = absurd f
     ends (Err (feeds.Machine seals.Memory)) f = absurd f
 
-  pub ends_as : (fed : Fed) → ((v : SealingValue) → Stands old v → Finishes (sink_takes state) (sink_fails state) v before after fed)
+  pub ends_as : (fed : Fed) → ((v : SealingValue) → Stands old v → SealerFinishes (PutsAll state) (sink_fails state) v before after fed)
       → (size : ℕ) (random text : List ℕ) (m : EncMaterialsValue) → IsWritten message size random (Some m) text
       → FinishesAs m size random text (state before) (state after) (put_as fed)
   ends_as fed finishing size random text m written =
       let at = stands_old size random text m written in
-      ends size random text m written at.1 fed (finishing (session_of m size (drawn_id random) text) at.0)
+      ends size random text m written at.1 fed (finishing (sealing_of_text m size (drawn_id random) text) at.0)

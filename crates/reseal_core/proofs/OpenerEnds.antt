@@ -4,7 +4,7 @@ use Rattle.std.specs.Prelude.{IfSome}
 use Rattle.std.specs.Io.KnownBytes.{Appends}
 use Rattle.esdk_fields.specs.declared.faults.Fault.{Fault}
 use Rattle.esdk_fields.specs.declared.refusals.Outside.TheVariants as outsides
-use Rattle.esdk_base.specs.Receiver.{SinkTakes}
+use Rattle.esdk_base.specs.Receiver.{SinkTakes, PutsAll}
 use Rattle.esdk_base.specs.ReceiverLaws.{takes_none}
 use Rattle.esdk_base.specs.Streams.{SinkState, SourceState}
 use Rattle.context_codec.specs.Context.{KeyValue}
@@ -23,8 +23,8 @@ use Rattle.stream_open.specs.Feeding.{FindsFault, GoesOn, IsFedExactly, KeepsAns
 use Rattle.stream_open.specs.Laws.{MayBeHeard}
 use Rattle.stream_open.specs.Receiving.{FedWhole}
 use Rattle.stream_open.specs.Session.{OpeningValue, answer_kept, asked_header, judged_now, keeping}
-use Rattle.stream_open.specs.Session.{new_session as new_opening}
-use Rattle.stream_open.specs.Stands.{Steps as StepsOpener}
+use Rattle.stream_open.specs.Session.{new_opening_session as new_opening}
+use Rattle.stream_open.specs.Stands.{OpenerSteps as StepsOpener}
 use Rattle.stream_open.proofs.FedPieces.{Joins, joins, keeps_some}
 use Rattle.stream_open.proofs.Feeding.{asks_about, feeds_exactly, kept_answer, may_hear, opened_goes, sure}
 use Rattle.stream_open.proofs.FoundFaults.{faulty_locked}
@@ -32,18 +32,18 @@ use Rattle.stream_open.proofs.PieceEnds.{ends_at, same_piece, whole_none}
 use Rattle.whole_input.specs.Pieces.{most_piece}
 use Rattle.whole_input.specs.Taken.{Came}
 use Rattle.esdk_decrypt.specs.Decrypt.{answering_of, fault_of}
-use Rattle.esdk_decrypt.specs.Underway.{PutsAll, PutsFront}
+use Rattle.esdk_decrypt.specs.Underway.{PutsFront}
 use Rattle.esdk_decrypt.specs.declared.errors.DecryptError.TheVariants as decrypts
 use Rattle.esdk_decrypt.proofs.Answering.{Answered, answered_kept, judged_before, sound_before}
 use Rattle.esdk_decrypt.proofs.Breaking.{short_ends, unread}
 use Rattle.reseal_core.specs.declared.errors.InputError.{InputError}
 use Rattle.reseal_core.specs.declared.errors.InputError.TheVariants as errors
 use Rattle.reseal_core.specs.declared.resealer.Resealer.{Resealer}
-use Rattle.reseal_core.specs.Errors.{opened_as}
-use Rattle.reseal_core.specs.Front.{Gains, front_of}
-use Rattle.reseal_core.specs.Reseal.{EndsSo, Resealing, WritesBy, WritesFirst, WritesFront, resealing_from}
-use Rattle.reseal_core.specs.Session.{new_session}
-use Rattle.reseal_core.specs.Underway.{AreMade, IsCalled, IsMade, Reached}
+use Rattle.reseal_core.specs.Errors.{open_error_as}
+use Rattle.reseal_core.specs.Front.{GainsBeyond, front_of}
+use Rattle.reseal_core.specs.Reseal.{ResealEndsSo, Resealing, WritesBy, WritesFirst, ResealWritesFront, resealing_from}
+use Rattle.reseal_core.specs.Session.{new_resealing_session}
+use Rattle.reseal_core.specs.Underway.{AreMade, ResealErrorIsCalled, IsMade, Reached}
 use Rattle.reseal_core.proofs.Stepping.{gains_all}
 use Rattle.reseal_core.proofs.Reaching.{has_gained, has_room, into_untold, untold, writes_reached}
 use Rattle.reseal_core.proofs.Sessions.{wants_header}
@@ -68,7 +68,7 @@ stopped_not : opens.Stopped ≡ opens.Memory → ⊥
 stopped_not e = cc
 
 module _ {A B : Type 0} (opened : A → ManagerNow) (sealed : B → ManagerNow) (now : ℕ) (settings : Settings) (given : List KeyValue) (size : ℕ) (random : List ℕ) (bytes : List ℕ) (old new : A) (before after : B)
-    (output put : SinkState) (resealer : Resealer) (r : Reached opened sealed now (new_session settings given size random) bytes old new before after output put resealer)
+    (output put : SinkState) (resealer : Resealer) (r : Reached opened sealed now (new_resealing_session settings given size random) bytes old new before after output put resealer)
     (rest : List ℕ) (last : A) (end : B) (next : Opener) (stays : asked_header r.fed.session rest ≡ None → last ≡ new) where
   abbrev v : OpeningValue
   v = new_opening settings given
@@ -94,7 +94,7 @@ module _ {A B : Type 0} (opened : A → ManagerNow) (sealed : B → ManagerNow) 
   module _ (unasked : end ≡ after) (input taken : SourceState) (came : Came input taken (bytes ++ rest)) (faults : taken.faults ≡ input.faults) (few : length rest ≤ most_piece) where
     -- nothing was put while there are no materials
     nothing_put : r.materials ≡ None → SinkTakes output put []
-    nothing_put none = gains_all output put [] (subst (λ (x : Option EncMaterialsValue). Gains output put [] (front_of x size random (content (judged_now w)))) none r.gained)
+    nothing_put none = gains_all output put [] (subst (λ (x : Option EncMaterialsValue). GainsBeyond output put [] (front_of x size random (content (judged_now w)))) none r.gained)
 
     none_by : (m : Option EncMaterialsValue) → is_some m ≡ false → m ≡ None
     none_by None e = refl
@@ -110,7 +110,7 @@ module _ {A B : Type 0} (opened : A → ManagerNow) (sealed : B → ManagerNow) 
     none_fed = whole_none opened (PutsAll (λ (x : SinkState). x)) now w new untold resealer.opener goes r.fed.stands (λ x. takes_none x)
 
     -- its manager failed
-    pub keyring_ends : StepsOpener (opened new) (opened last) now w rest (Err opens.KeyringFault) next → EndsSo asked random input taken output put (errors.Outside outsides.KeyringFault)
+    pub keyring_ends : StepsOpener (opened new) (opened last) now w rest (Err opens.KeyringFault) next → ResealEndsSo asked random input taken output put (errors.Outside outsides.KeyringFault)
     keyring_ends s =
         let (heard_is, (h, asks)) = (exactly opens.KeyringFault s keyring_not).failed s.answers in
         let locked = wants_header w goes (asks_about w rest h goes asks).unheard in
@@ -124,7 +124,7 @@ module _ {A B : Type 0} (opened : A → ManagerNow) (sealed : B → ManagerNow) 
     memory_by None is = inl (nothing_put is)
     memory_by (Some m) is = inr (writes_reached opened sealed now settings given size random bytes old new before after output put resealer r rest last end unasked stays input taken came few m is)
 
-    pub memory_ends : StepsOpener (opened new) (opened last) now w rest (Err opens.Memory) next → EndsSo asked random input taken output put errors.Memory
+    pub memory_ends : StepsOpener (opened new) (opened last) now w rest (Err opens.Memory) next → ResealEndsSo asked random input taken output put errors.Memory
     memory_ends s =
         let short = ends_at {E = Unit {0}} opened (PutsAll (λ (x : SinkState). x)) (PutsFront (λ (x : SinkState). x)) now w rest 0 new new last untold untold untold resealer.opener next rest (omega arith) refl none_fed opens.Memory s stays in
         let ended = short_ends opened (λ (x : SinkState). x) now settings given bytes rest old new last untold untold untold resealer.opener next input taken
@@ -193,13 +193,13 @@ module _ {A B : Type 0} (opened : A → ManagerNow) (sealed : B → ManagerNow) 
           let front_is = front_written m is made_then in
           subst (λ (b : Bool). WritesBy asked random a.answer (content (judged_all w rest s.heard)) b output put) (sym still)
           (subst (λ (x : Unlocking). WritesBy asked random x (content (judged_all w rest s.heard)) true output put) (sym answer_is)
-          (subst (λ (t : List ℕ). WritesFront asked random made_then.whole made_then.only t output put) (sym finds.released) front_is))
+          (subst (λ (t : List ℕ). ResealWritesFront asked random made_then.whole made_then.only t output put) (sym finds.released) front_is))
         where
           kept_same : (o : Option Unlocking) {x : Unlocking} → o ≡ Some x → IfSome o (λ k. a.answer ≡ k) → a.answer ≡ x
           kept_same None e keeps_it = absurd cc
           kept_same (Some k) {x} e keeps_it = let is_x : k ≡ x = cc in keeps_it ∙ is_x
 
-          front_written : (m : EncMaterialsValue) → r.materials ≡ Some m → (made : AreMade (said_last (sealed before) (sealed end)) now random w.answer m) → WritesFront asked random made.whole made.only (content (judged_now w)) output put
+          front_written : (m : EncMaterialsValue) → r.materials ≡ Some m → (made : AreMade (said_last (sealed before) (sealed end)) now random w.answer m) → ResealWritesFront asked random made.whole made.only (content (judged_now w)) output put
           front_written m is made = record {
             materials = m;
             has = record { given = made.given.given; sound = made.given.sound; begins = made.given.begins };
@@ -207,7 +207,7 @@ module _ {A B : Type 0} (opened : A → ManagerNow) (sealed : B → ManagerNow) 
             gained = (has_gained opened sealed now settings given size random bytes old new before after output put resealer r m is).gained;
           }
 
-      pub fault_ends : EndsSo asked random input taken output put (errors.Fault fault)
+      pub fault_ends : ResealEndsSo asked random input taken output put (errors.Fault fault)
       fault_ends = record {
         bytes = bytes ++ rest;
         answer = a.answer;
@@ -223,8 +223,8 @@ module _ {A B : Type 0} (opened : A → ManagerNow) (sealed : B → ManagerNow) 
 
     -- ---- whatever ended it
 
-    pub opener_ends : (why : OpenError) (named : InputError) → StepsOpener (opened new) (opened last) now w rest (Err why) next → IsCalled (opened_as why) named → EndsSo asked random input taken output put named
-    opener_ends (opens.Fault fault) named s called = subst (λ (e : InputError). EndsSo asked random input taken output put e) (sym called) (fault_ends fault s)
-    opener_ends opens.KeyringFault named s called = subst (λ (e : InputError). EndsSo asked random input taken output put e) (sym called) (keyring_ends s)
-    opener_ends opens.Memory named s called = subst (λ (e : InputError). EndsSo asked random input taken output put e) (sym called) (memory_ends s)
+    pub opener_ends : (why : OpenError) (named : InputError) → StepsOpener (opened new) (opened last) now w rest (Err why) next → ResealErrorIsCalled (open_error_as why) named → ResealEndsSo asked random input taken output put named
+    opener_ends (opens.Fault fault) named s called = subst (λ (e : InputError). ResealEndsSo asked random input taken output put e) (sym called) (fault_ends fault s)
+    opener_ends opens.KeyringFault named s called = subst (λ (e : InputError). ResealEndsSo asked random input taken output put e) (sym called) (keyring_ends s)
+    opener_ends opens.Memory named s called = subst (λ (e : InputError). ResealEndsSo asked random input taken output put e) (sym called) (memory_ends s)
     opener_ends opens.Stopped named s called = absurd called

@@ -6,7 +6,7 @@ use Rattle.std.proofs.lemmas.List.{length-drop, take-append-drop}
 use Rattle.esdk_fields.specs.declared.refusals.Outside.TheVariants as outsides
 use Rattle.esdk_fields.specs.Place.{start}
 use Rattle.esdk_fields.specs.Reading.{Wanting}
-use Rattle.esdk_base.specs.Receiver.{SinkTakes}
+use Rattle.esdk_base.specs.Receiver.{SinkTakes, PutsAll}
 use Rattle.esdk_base.specs.ReceiverLaws.{front_longer}
 use Rattle.esdk_base.specs.Sink.{AppendsFront}
 use Rattle.esdk_base.specs.Streams.{SinkState, SourceState}
@@ -22,20 +22,19 @@ use Rattle.keyring_trait.specs.Unlocking.{Unlocking, Refuses, Unlocks}
 use Rattle.message_format.specs.Judgement.{Judged, content, judged}
 use Rattle.stream_open.specs.declared.session.Opener.{Opener}
 use Rattle.stream_open.specs.Receiving.{FedTo, FedWhole}
-use Rattle.stream_open.specs.Session.{OpeningValue, asked_header, is_faulty, judged_now, stepped}
-use Rattle.stream_open.specs.Session.{new_session as new_opening}
-use Rattle.stream_open.specs.Stands.{Steps as StepsOpener}
+use Rattle.stream_open.specs.Session.{OpeningValue, asked_header, is_faulty, judged_now, opening_stepped}
+use Rattle.stream_open.specs.Session.{new_opening_session as new_opening}
+use Rattle.stream_open.specs.Stands.{OpenerSteps as StepsOpener}
 use Rattle.stream_open.proofs.FedPieces.{asked_kept}
 use Rattle.stream_open.proofs.PieceEnds.{session_on, step_fed, step_on}
-use Rattle.stream_seal.specs.Start.{most_text, start_of}
+use Rattle.stream_seal.specs.Start.{most_text, start_of, drawn_id, drawn_rest}
 use Rattle.whole_input.specs.Pieces.{APieceBehind, most_piece}
 use Rattle.whole_input.specs.Taken.{Came}
 use Rattle.whole_input.specs.Written.{WritesBeyond}
 use Rattle.whole_input.proofs.Fronts.{beyond_after}
-use Rattle.esdk_encrypt.specs.Encrypt.{drawn_id, drawn_rest, written_so_far}
+use Rattle.esdk_encrypt.specs.Encrypt.{written_so_far}
 use Rattle.esdk_encrypt.proofs.Sessions.{written_none}
-use Rattle.esdk_decrypt.specs.Decrypt.{AnswersTo, HasNoMemory, answering_of, fault_of}
-use Rattle.esdk_decrypt.specs.Underway.{PutsAll}
+use Rattle.esdk_decrypt.specs.Decrypt.{AnswersTo, DecryptLacksMemory, answering_of, fault_of}
 use Rattle.esdk_decrypt.proofs.Answering.{Answered, judged_before, sound_none}
 use Rattle.esdk_decrypt.proofs.Concluding.{come_to}
 use Rattle.reseal_core.specs.declared.errors.InputError.{InputError}
@@ -44,13 +43,13 @@ use Rattle.reseal_core.specs.declared.errors.ResealError.{ResealError}
 use Rattle.reseal_core.specs.declared.errors.ResealError.TheVariants as reseals
 use Rattle.stream_seal.specs.declared.session.Sealer.{Sealer}
 use Rattle.reseal_core.specs.declared.resealer.Resealer.{Resealer}
-use Rattle.reseal_core.specs.Front.{Gains, front_of, request_for}
+use Rattle.reseal_core.specs.Front.{GainsBeyond, front_of, request_for}
 use Rattle.reseal_core.specs.Errors.{given_as}
-use Rattle.reseal_core.specs.NewMessage.{AreGiven, GoesNotOn, HeaderFails, IsFedText, IsNotBegun}
-use Rattle.reseal_core.specs.Reseal.{EndsSo, OpensFirst, Passes, Resealing, Writes, WritesBy, WritesFirst, WritesFront, resealing_from, written_at, written_of}
-use Rattle.reseal_core.specs.Session.{ResealingValue, front, gone_on, new_session}
-use Rattle.reseal_core.specs.Stands.{AsksFor, BeginsNot, IsOpen, PassesNot, Stands, StepsOn}
-use Rattle.reseal_core.specs.Underway.{AreMade, IsCalled, IsMade, IsUnstopped, Reached}
+use Rattle.reseal_core.specs.NewMessage.{MaterialsAreGiven, GoesNotOn, NewHeaderFails, IsFedText, IsNotBegun}
+use Rattle.reseal_core.specs.Reseal.{ResealEndsSo, OpensFirst, Passes, Resealing, WritesNewMessage, WritesBy, WritesFirst, ResealWritesFront, resealing_from, written_at, written_of}
+use Rattle.reseal_core.specs.Session.{ResealingValue, front, gone_on, new_resealing_session}
+use Rattle.reseal_core.specs.Stands.{AsksFor, NewMessageBeginsNot, OldMessageIsOpen, PassesNot, Stands, ResealerStepsOn}
+use Rattle.reseal_core.specs.Underway.{AreMade, ResealErrorIsCalled, IsMade, IsUnstopped, Reached}
 use Rattle.reseal_core.proofs.Stepping.{gains_all, gains_more, longer_some, unlocked_with, was_unlocked, writes_beyond}
 use Rattle.reseal_core.proofs.Unlocked.{lacks_wanting, locked_content, still_in_header}
 
@@ -76,7 +75,7 @@ keeps_kept (Some k) answer is e keeps = let same : k ≡ is = cc in keeps ∙ sa
 
 module _ {A B : Type 0} (opened : A → ManagerNow) (sealed : B → ManagerNow) (now : ℕ) (settings : Settings) (given : List KeyValue) (size : ℕ) (random : List ℕ) where
   abbrev v0 : ResealingValue
-  v0 = new_session settings given size random
+  v0 = new_resealing_session settings given size random
 
   abbrev asked : A → A → B → B → Resealing
   asked old new before after = resealing_from (opened old) (opened new) (sealed before) (sealed after) now settings given size
@@ -124,7 +123,7 @@ module _ {A B : Type 0} (opened : A → ManagerNow) (sealed : B → ManagerNow) 
 
     pub has_gained : (m : EncMaterialsValue) → r.materials ≡ Some m → SinkTakes output put (written_so_far m size (drawn_id random) (content (judged_now w)))
     has_gained m is =
-        gains_all output put (front_of (Some m) size random (content (judged_now w))) (subst (λ (x : Option EncMaterialsValue). Gains output put [] (front_of x size random (content (judged_now w)))) is r.gained)
+        gains_all output put (front_of (Some m) size random (content (judged_now w))) (subst (λ (x : Option EncMaterialsValue). GainsBeyond output put [] (front_of x size random (content (judged_now w)))) is r.gained)
 
     -- while there are no materials the old message is locked, and wants bytes of its header
     locked_yet : r.materials ≡ None → (judged_now w).unlocked ≡ false
@@ -144,11 +143,11 @@ module _ {A B : Type 0} (opened : A → ManagerNow) (sealed : B → ManagerNow) 
     room_yet = room_for r.materials refl
 
     -- what is written is what was put
-    written_by : (m : Option EncMaterialsValue) → r.materials ≡ m → Writes (asked old new before after) random answer (judged_now w) output put
+    written_by : (m : Option EncMaterialsValue) → r.materials ≡ m → WritesNewMessage (asked old new before after) random answer (judged_now w) output put
     written_by None is =
         let locked : (judged_now w).unlocked ≡ false = sym (r.stands.going refl).unlocked ∙ ap is_some is in
         let gained : Appends output.written put.written [] =
-        (gains_all output put (front_of None size random (content (judged_now w))) (subst (λ (m : Option EncMaterialsValue). Gains output put [] (front_of m size random (content (judged_now w)))) is r.gained)).gained in
+        (gains_all output put (front_of None size random (content (judged_now w))) (subst (λ (m : Option EncMaterialsValue). GainsBeyond output put [] (front_of m size random (content (judged_now w)))) is r.gained)).gained in
         subst (λ (b : Bool). WritesBy (asked old new before after) random answer (content (judged_now w)) b output put) (sym locked) (nothing answer gained)
       where
         nothing : (a : Unlocking) → Appends output.written put.written [] → WritesBy (asked old new before after) random a (content (judged_now w)) false output put
@@ -158,13 +157,13 @@ module _ {A B : Type 0} (opened : A → ManagerNow) (sealed : B → ManagerNow) 
         let unlocked : (judged_now w).unlocked ≡ true = sym (r.stands.going refl).unlocked ∙ ap is_some is in
         let made : AreMade (said_last (sealed before) (sealed after)) now random w.answer m =
         subst (λ (x : Option EncMaterialsValue). IsMade (said_last (sealed before) (sealed after)) now random w.answer (after ≡ before) x) is r.made in
-        let front_is : WritesFront (asked old new before after) random made.whole made.only (content (judged_now w)) output put =
+        let front_is : ResealWritesFront (asked old new before after) random made.whole made.only (content (judged_now w)) output put =
         record { materials = m; has = record { given = made.given.given; sound = made.given.sound; begins = made.given.begins }; room = has_room m is; gained = (has_gained m is).gained } in
         subst (λ (b : Bool). WritesBy (asked old new before after) random answer (content (judged_now w)) b output put) (sym unlocked)
         (subst (λ (a : Unlocking). WritesBy (asked old new before after) random a (content (judged_now w)) true output put) (sym (answer_kept_is (Unlocks made.whole made.only made.key) made.answer_is)) front_is)
 
-    pub written : Writes (asked old new before after) random answer (judged bytes settings answer) output put
-    written = subst (λ (j : Judged). Writes (asked old new before after) random answer j output put) (sym same) (written_by r.materials refl)
+    pub written : WritesNewMessage (asked old new before after) random answer (judged bytes settings answer) output put
+    written = subst (λ (j : Judged). WritesNewMessage (asked old new before after) random answer j output put) (sym same) (written_by r.materials refl)
 
     pub passes : (input taken : SourceState) → Came input taken bytes → Passes (asked old new before after) random input taken output put bytes answer
     passes input taken came = record { came = came; answered = answers; written = written }
@@ -193,7 +192,7 @@ module _ {A B : Type 0} (opened : A → ManagerNow) (sealed : B → ManagerNow) 
             sound = ap (λ (x : Unlocking). fault_of (judged bytes settings x).verdict) (sym answer_is) ∙ sound;
             unlocked = ap (λ (j : Judged). j.unlocked) same_is ∙ unlocked;
           };
-          front = subst (λ (t : List ℕ). WritesFront (asked old new before after) random made.whole made.only t output put) (sym (ap content same_is))
+          front = subst (λ (t : List ℕ). ResealWritesFront (asked old new before after) random made.whole made.only t output put) (sym (ap content same_is))
               (record { materials = m; has = record { given = made.given.given; sound = made.given.sound; begins = made.given.begins }; room = has_room m is; gained = (has_gained m is).gained });
         }))
 
@@ -202,7 +201,7 @@ module _ {A B : Type 0} (opened : A → ManagerNow) (sealed : B → ManagerNow) 
     module _ (rest : List ℕ) (last : A) (end : B) (now_put : SinkState) (used : ℕ) (some : 1 ≤ length rest) (next : Resealer) (s : StepsOpener (opened new) (opened last) now w rest (Ok used) next.opener)
         (stays : asked_header w rest ≡ None → last ≡ new) where
       abbrev z : OpeningValue
-      z = stepped w rest s.heard (Ok used)
+      z = opening_stepped w rest s.heard (Ok used)
 
       abbrev on : FedTo opened now v0.opening (bytes ++ take used rest) (r.text ++ z.out) old last next.opener
       on = step_on opened now v0.opening bytes r.text old new last resealer.opener next.opener rest r.fed used s stays some
@@ -230,7 +229,7 @@ module _ {A B : Type 0} (opened : A → ManagerNow) (sealed : B → ManagerNow) 
             only = made.only;
             key = made.key;
             answer_is = keeps_on (Unlocks made.whole made.only made.key) made.answer_is;
-            given = subst (λ (b : B). AreGiven (said_last (sealed before) (sealed b)) now random made.whole made.only m) (sym un) made.given;
+            given = subst (λ (b : B). MaterialsAreGiven (said_last (sealed before) (sealed b)) now random made.whole made.only m) (sym un) made.given;
           })
       made_by None is None (locked, un) = un ∙ subst (λ (x : Option EncMaterialsValue). IsMade (said_last (sealed before) (sealed after)) now random w.answer (after ≡ before) x) is r.made
       made_by None is (Some m) asks =
@@ -240,11 +239,11 @@ module _ {A B : Type 0} (opened : A → ManagerNow) (sealed : B → ManagerNow) 
             only = asks.only;
             key = asks.opened.key;
             answer_is = asks.opened.answer;
-            given = subst (λ (b : B). AreGiven (said_last (sealed b) (sealed end)) now random asks.whole asks.only m) first asks.given;
+            given = subst (λ (b : B). MaterialsAreGiven (said_last (sealed b) (sealed end)) now random asks.whole asks.only m) first asks.given;
           }
 
       -- the bytes that were used were fed too
-      pub reached_on : StepsOn (said_last (sealed after) (sealed end)) now (gone_on v0 w r.materials) z put now_put (end ≡ after) next
+      pub reached_on : ResealerStepsOn (said_last (sealed after) (sealed end)) now (gone_on v0 w r.materials) z put now_put (end ≡ after) next
           → Reached opened sealed now v0 (bytes ++ take used rest) old last before end output now_put next
       reached_on steps = record {
         text = r.text ++ z.out;
@@ -252,7 +251,7 @@ module _ {A B : Type 0} (opened : A → ManagerNow) (sealed : B → ManagerNow) 
         materials = steps.materials;
         stands = subst (λ (o : OpeningValue). Stands next (gone_on v0 o steps.materials)) (sym is_z) steps.stands;
         made = subst (λ (o : OpeningValue). IsMade (said_last (sealed before) (sealed end)) now random o.answer (end ≡ before) steps.materials) (sym is_z) (made_by r.materials refl steps.materials steps.asks);
-        gained = subst (λ (o : OpeningValue). Gains output now_put [] (front_of steps.materials size random (content (judged_now o)))) (sym is_z)
+        gained = subst (λ (o : OpeningValue). GainsBeyond output now_put [] (front_of steps.materials size random (content (judged_now o)))) (sym is_z)
             (gains_more output put now_put [] (front (gone_on v0 w r.materials)) (front (gone_on v0 z steps.materials)) r.gained steps.gained);
       }
 
@@ -349,11 +348,11 @@ module _ {A B : Type 0} (opened : A → ManagerNow) (sealed : B → ManagerNow) 
 
         passes_by : (m : EncMaterialsValue) (error : ResealError) (named : InputError) (made : AreMade (said_last (sealed before) (sealed end)) now random z.answer m) → (judged_now z).unlocked ≡ true
             → front (gone_on v0 w r.materials) ≡ written_of m size random (judged_now w)
-            → GoesNotOn m size random (front (gone_on v0 w r.materials)) (content (judged_now z)) put now_put error → IsCalled error named → EndsSo a random input taken output now_put named
+            → GoesNotOn m size random (front (gone_on v0 w r.materials)) (content (judged_now z)) put now_put error → ResealErrorIsCalled error named → ResealEndsSo a random input taken output now_put named
         passes_by m (reseals.Refusal refusal) named made open_z put_is (is, many) called =
             let here = opens_here made.whole made.only made.key made.answer_is in
             let text : content (judged_now z) ≡ content (judged (bytes ++ take used rest) settings (Unlocks made.whole made.only made.key)) = sym (ap content here.same) in
-            subst (λ (e : InputError). EndsSo a random input taken output now_put e) (sym called) (inr (
+            subst (λ (e : InputError). ResealEndsSo a random input taken output now_put e) (sym called) (inr (
               is,
               record {
                 first = bytes ++ take used rest;
@@ -375,7 +374,7 @@ module _ {A B : Type 0} (opened : A → ManagerNow) (sealed : B → ManagerNow) 
             let here = opens_here made.whole made.only made.key made.answer_is in
             let text : content (judged_now z) ≡ content (judged (bytes ++ take used rest) settings (Unlocks made.whole made.only made.key)) = sym (ap content here.same) in
             let before_it = gains_all output put (front (gone_on v0 w r.materials)) r.gained in
-            subst (λ (e : InputError). EndsSo a random input taken output now_put e) (sym called) (
+            subst (λ (e : InputError). ResealEndsSo a random input taken output now_put e) (sym called) (
               omega (arith, failed.failed.rose, before_it.faults),
               inl (record {
                 first = bytes ++ take used rest;
@@ -397,20 +396,20 @@ module _ {A B : Type 0} (opened : A → ManagerNow) (sealed : B → ManagerNow) 
         passes_by m reseals.Stopped named made open_z put_is none called = absurd none
         passes_by m reseals.Memory named made open_z put_is none called = absurd none
 
-        pub passes_ends : (error : ResealError) (named : InputError) → PassesNot (said_last (sealed after) (sealed end)) now (gone_on v0 w r.materials) z put now_put (end ≡ after) error → IsCalled error named
-            → EndsSo a random input taken output now_put named
+        pub passes_ends : (error : ResealError) (named : InputError) → PassesNot (said_last (sealed after) (sealed end)) now (gone_on v0 w r.materials) z put now_put (end ≡ after) error → ResealErrorIsCalled error named
+            → ResealEndsSo a random input taken output now_put named
         passes_ends error named p called =
             passes_by p.materials error named (made_by r.materials refl (Some p.materials) p.asks) (open_with p.materials p.asks) (front_by p.materials r.materials refl p.asks) p.why called
 
         -- ---- the new message wasn't begun
 
-        module _ (none : r.materials ≡ None) (whole only : List KeyValue) (open_is : IsOpen z whole only) where
+        module _ (none : r.materials ≡ None) (whole only : List KeyValue) (open_is : OldMessageIsOpen z whole only) where
           first_asked : after ≡ before
           first_asked = subst (λ (x : Option EncMaterialsValue). IsMade (said_last (sealed before) (sealed after)) now random w.answer (after ≡ before) x) none r.made
 
           nothing_put : SinkTakes output put []
           nothing_put =
-              gains_all output put [] (subst (λ (x : Option EncMaterialsValue). Gains output put [] (front_of x size random (content (judged_now w)))) none r.gained)
+              gains_all output put [] (subst (λ (x : Option EncMaterialsValue). GainsBeyond output put [] (front_of x size random (content (judged_now w)))) none r.gained)
 
           wants : header settings (start bytes) ≡ Wanting
           wants = wants_yet none
@@ -418,11 +417,11 @@ module _ {A B : Type 0} (opened : A → ManagerNow) (sealed : B → ManagerNow) 
           abbrev opens_z : OpensFirst a input taken (bytes ++ take used rest) whole only open_is.key
           opens_z = opens_first whole only open_is.key open_is.answer open_is.unlocked input taken came few
 
-          header_ends : HeaderFails (said_last (sealed after) (sealed end)) now whole only size random put now_put → EndsSo a random input taken output now_put (errors.Outside outsides.SinkFault)
+          header_ends : NewHeaderFails (said_last (sealed after) (sealed end)) now whole only size random put now_put → ResealEndsSo a random input taken output now_put (errors.Outside outsides.SinkFault)
           header_ends h =
               let m : EncMaterialsValue = h.materials in
-              let given_then : AreGiven (said_last (sealed before) (sealed end)) now random whole only m =
-              subst (λ (b : B). AreGiven (said_last (sealed b) (sealed end)) now random whole only m) first_asked h.given in
+              let given_then : MaterialsAreGiven (said_last (sealed before) (sealed end)) now random whole only m =
+              subst (λ (b : B). MaterialsAreGiven (said_last (sealed b) (sealed end)) now random whole only m) first_asked h.given in
               let header : h.failed.given ≡ start_of m size (drawn_id random) = sym h.failed.between ∙ written_none m size (drawn_id random) in
               let text : List ℕ = take (most_text size) (content (judged (bytes ++ take used rest) settings (Unlocks whole only open_is.key))) in (
                 omega (arith, h.failed.failed.rose, nothing_put.faults),
@@ -443,31 +442,31 @@ module _ {A B : Type 0} (opened : A → ManagerNow) (sealed : B → ManagerNow) 
                 }),
               )
 
-          lacks : HasNoMemory a.opening input taken
+          lacks : DecryptLacksMemory a.opening input taken
           lacks = record { before = bytes; last = rest; came = came; few = few; lacks = lacks_wanting a.opening bytes wants }
 
           module _ (same_put : now_put ≡ put) where
             nothing_now : SinkTakes output now_put []
             nothing_now = subst (λ (x : SinkState). SinkTakes output x []) (sym same_put) nothing_put
 
-            refused_ends : (why : ManagerError) (named : InputError) → (said_last (sealed before) (sealed end)).gives_none (request_for whole only) why → IsCalled (given_as why) named
-                → EndsSo a random input taken output now_put named
-            refused_ends (managers.Refusal refusal) named gives called = subst (λ (e : InputError). EndsSo a random input taken output now_put e) (sym called)
+            refused_ends : (why : ManagerError) (named : InputError) → (said_last (sealed before) (sealed end)).gives_none (request_for whole only) why → ResealErrorIsCalled (given_as why) named
+                → ResealEndsSo a random input taken output now_put named
+            refused_ends (managers.Refusal refusal) named gives called = subst (λ (e : InputError). ResealEndsSo a random input taken output now_put e) (sym called)
                 (inl (record { first = bytes ++ take used rest; whole = whole; only = only; key = open_is.key; opens = opens_z; faults = faults; why = inl gives; nothing = nothing_now; last = last_piece _ few wants }))
-            refused_ends managers.KeyringFault named gives called = subst (λ (e : InputError). EndsSo a random input taken output now_put e) (sym called)
+            refused_ends managers.KeyringFault named gives called = subst (λ (e : InputError). ResealEndsSo a random input taken output now_put e) (sym called)
                 (inr (record { first = bytes ++ take used rest; whole = whole; only = only; key = open_is.key; opens = opens_z; faults = faults; none = gives; nothing = nothing_now; last = last_piece _ few wants }))
-            refused_ends managers.Memory named gives called = subst (λ (e : InputError). EndsSo a random input taken output now_put e) (sym called)
+            refused_ends managers.Memory named gives called = subst (λ (e : InputError). ResealEndsSo a random input taken output now_put e) (sym called)
                 (record { lacks = lacks; written = inl nothing_now })
             refused_ends (managers.Fault fault) named gives called = absurd gives
 
-            pub unbegun_ends : (error : ResealError) (named : InputError) → IsNotBegun (said_last (sealed after) (sealed end)) now random whole only error → IsCalled error named
-                → EndsSo a random input taken output now_put named
+            pub unbegun_ends : (error : ResealError) (named : InputError) → IsNotBegun (said_last (sealed after) (sealed end)) now random whole only error → ResealErrorIsCalled error named
+                → ResealEndsSo a random input taken output now_put named
             unbegun_ends error named (inl gives) called =
                 refused_ends gives.why named (subst (λ (b : B). (said_last (sealed b) (sealed end)).gives_none (request_for whole only) gives.why) first_asked gives.none)
-                (subst (λ (e : ResealError). IsCalled e named) gives.named called)
+                (subst (λ (e : ResealError). ResealErrorIsCalled e named) gives.named called)
             unbegun_ends error named (inr (inl starts)) called =
-                let is : named ≡ errors.Refusal starts.refusal = subst (λ (e : ResealError). IsCalled e named) starts.named called in
-                subst (λ (e : InputError). EndsSo a random input taken output now_put e) (sym is) (inl (record {
+                let is : named ≡ errors.Refusal starts.refusal = subst (λ (e : ResealError). ResealErrorIsCalled e named) starts.named called in
+                subst (λ (e : InputError). ResealEndsSo a random input taken output now_put e) (sym is) (inl (record {
                   first = bytes ++ take used rest;
                   whole = whole;
                   only = only;
@@ -484,17 +483,17 @@ module _ {A B : Type 0} (opened : A → ManagerNow) (sealed : B → ManagerNow) 
                   last = last_piece _ few wants;
                 }))
             unbegun_ends error named (inr (inr memory)) called =
-                let is : named ≡ errors.Memory = subst (λ (e : ResealError). IsCalled e named) memory called in
-                subst (λ (e : InputError). EndsSo a random input taken output now_put e) (sym is) (record { lacks = lacks; written = inl nothing_now })
+                let is : named ≡ errors.Memory = subst (λ (e : ResealError). ResealErrorIsCalled e named) memory called in
+                subst (λ (e : InputError). ResealEndsSo a random input taken output now_put e) (sym is) (record { lacks = lacks; written = inl nothing_now })
 
         pub begins_ends : (error : ResealError) (named : InputError) (unwritten : Type 0) → (unwritten → now_put ≡ put)
-            → BeginsNot r.materials (said_last (sealed after) (sealed end)) now size random z put now_put unwritten error → IsCalled error named → EndsSo a random input taken output now_put named
+            → NewMessageBeginsNot r.materials (said_last (sealed after) (sealed end)) now size random z put now_put unwritten error → ResealErrorIsCalled error named → ResealEndsSo a random input taken output now_put named
         begins_ends error named unwritten kept b called =
             begins_by b.why
           where
-            begins_by : ((error ≡ reseals.SinkFault) × HeaderFails (said_last (sealed after) (sealed end)) now b.whole b.only size random put now_put)
-                ⊎ (IsNotBegun (said_last (sealed after) (sealed end)) now random b.whole b.only error × unwritten) → EndsSo a random input taken output now_put named
+            begins_by : ((error ≡ reseals.SinkFault) × NewHeaderFails (said_last (sealed after) (sealed end)) now b.whole b.only size random put now_put)
+                ⊎ (IsNotBegun (said_last (sealed after) (sealed end)) now random b.whole b.only error × unwritten) → ResealEndsSo a random input taken output now_put named
             begins_by (inl (is, header)) =
-                let called_so : named ≡ errors.Outside outsides.SinkFault = subst (λ (e : ResealError). IsCalled e named) is called in
-                subst (λ (e : InputError). EndsSo a random input taken output now_put e) (sym called_so) (header_ends b.none b.whole b.only b.opened header)
+                let called_so : named ≡ errors.Outside outsides.SinkFault = subst (λ (e : ResealError). ResealErrorIsCalled e named) is called in
+                subst (λ (e : InputError). ResealEndsSo a random input taken output now_put e) (sym called_so) (header_ends b.none b.whole b.only b.opened header)
             begins_by (inr (why, un)) = unbegun_ends b.none b.whole b.only b.opened (kept un) error named why called

@@ -20,9 +20,8 @@ use Rattle.keyring_trait.proofs.Made.{made_is_wrapped}
 use Rattle.keyring_trait.proofs.Unlocking.{given_is}
 use Rattle.message_format.specs.Judgement.{content, judged}
 use Rattle.message_format.proofs.WrittenMessages.{text_released}
-use Rattle.stream_seal.specs.Start.{message_of, start_refusal}
-use Rattle.esdk_encrypt.specs.Encrypt.{drawn_id, drawn_rest}
-use Rattle.esdk_encrypt.specs.Told.{materials_of}
+use Rattle.stream_seal.specs.Start.{message_of, start_refusal, drawn_id, drawn_rest}
+use Rattle.esdk_encrypt.specs.Told.{drawn_materials}
 use Rattle.esdk_decrypt.specs.Laws.{IsWrittenFor, Written, written_message}
 use Rattle.esdk_decrypt.specs.Told.{Reader}
 use Rattle.esdk_decrypt.proofs.RoundTrip.{written_judged, written_unlocked}
@@ -116,7 +115,7 @@ module _ (reader : Reader) (writers keys : List WrapKeyValue) (m : Written) (old
       let text_is : content (judged r.bytes reader.settings (Unlocks context r.only r.key)) ≡ m.text =
       ap content (sym all.same) ∙ ap content (written_judged reader writers m for) ∙ text_released m.text m.size for.writable.some in
       let given : r.materials ≡ new_materials m keys old size d.drawn =
-      r.has.given.1 ∙ (λ i. materials_of (new_writer keys old size (whole_is.0 i) (whole_is.1 i)) (drawn_rest d.drawn)) in
+      r.has.given.1 ∙ (λ i. drawn_materials (new_writer keys old size (whole_is.0 i) (whole_is.1 i)) (drawn_rest d.drawn)) in
       let can : CanSeal keys old size d.drawn m.context (only_of m.required m.context) m.text = record {
         wide = wide;
         narrow = narrow;

@@ -13,36 +13,36 @@ use Rattle.stream_open.specs.declared.errors.OpenError.{OpenError}
 use Rattle.stream_open.specs.declared.errors.OpenError.TheVariants as opens
 use Rattle.stream_open.specs.declared.session.Opener.{Opener}
 use Rattle.stream_open.specs.Asking.{Heard, Nothing, Found, Named, Failed, IsHeard}
-use Rattle.stream_open.specs.Feeding.{Feeds, GoesOn}
-use Rattle.stream_open.specs.Session.{OpeningValue, answer_kept, asked_header, judged_now, keeping, stepped}
-use Rattle.stream_open.specs.Stands.{Stands as Opens, Steps as StepsOpener}
+use Rattle.stream_open.specs.Feeding.{FeedsToOpener, GoesOn}
+use Rattle.stream_open.specs.Session.{OpeningValue, answer_kept, asked_header, judged_now, keeping, opening_stepped}
+use Rattle.stream_open.specs.Stands.{Stands as Opens, OpenerSteps as StepsOpener}
 use Rattle.stream_open.proofs.Feeding.{feeds_ok, may_hear, sure}
 use Rattle.stream_open.proofs.GoingOn.{stands_goes}
 use Rattle.reseal_core.specs.declared.errors.ResealError.{ResealError}
 use Rattle.reseal_core.specs.declared.errors.ResealError.TheVariants as errors
 use Rattle.reseal_core.specs.declared.new_message.NewMessage.{NewMessage}
 use Rattle.reseal_core.specs.declared.resealer.Resealer.{Resealer}
-use Rattle.reseal_core.specs.Errors.{opened_as}
-use Rattle.reseal_core.specs.Front.{Gains, GainsNotAll, front_of}
-use Rattle.reseal_core.specs.NewMessage.{GoesNotOn, GoesOnAs, IsWritten}
+use Rattle.reseal_core.specs.Errors.{open_error_as}
+use Rattle.reseal_core.specs.Front.{GainsBeyond, GainsNotAll, front_of}
+use Rattle.reseal_core.specs.NewMessage.{GoesNotOn, NewMessageGoesOnAs, IsWritten}
 use Rattle.reseal_core.specs.Session.{HoldsOnly, ResealingValue, front, stopped_at, text_so_far}
-use Rattle.reseal_core.specs.Stands.{AsksFor, BeginsNot, BeginsWhereDue, Stands, Steps}
+use Rattle.reseal_core.specs.Stands.{AsksFor, NewMessageBeginsNot, BeginsWhereDue, Stands, ResealerSteps}
 use Rattle.reseal_core.proofs.Requiring.{whole_held}
 use Rattle.reseal_core.proofs.Unlocked.{locked_content, stays_unlocked}
 
 -- ---- what a sink gained
 
-pub gains_none : (now : SinkState) (text : List ℕ) → Gains now now text text
+pub gains_none : (now : SinkState) (text : List ℕ) → GainsBeyond now now text text
 gains_none now text = record { given = []; between = sym (append-nil text); taken = takes_none now }
 
-pub gains_more : (old mid new : SinkState) (a b c : List ℕ) → Gains old mid a b → Gains mid new b c → Gains old new a c
+pub gains_more : (old mid new : SinkState) (a b c : List ℕ) → GainsBeyond old mid a b → GainsBeyond mid new b c → GainsBeyond old new a c
 gains_more old mid new a b c one two = record {
   given = one.given ++ two.given;
   between = two.between ∙ ap (λ (x : List ℕ). x ++ two.given) one.between ∙ append_assoc a one.given two.given;
   taken = takes_more old mid new one.given two.given one.taken two.taken;
 }
 
-pub gains_not : (old mid new : SinkState) (a b c : List ℕ) → Gains old mid a b → GainsNotAll mid new b c → GainsNotAll old new a c
+pub gains_not : (old mid new : SinkState) (a b c : List ℕ) → GainsBeyond old mid a b → GainsNotAll mid new b c → GainsNotAll old new a c
 gains_not old mid new a b c one two = record {
   given = one.given ++ two.given;
   some = omega (arith, two.some, length-append one.given two.given);
@@ -51,7 +51,7 @@ gains_not old mid new a b c one two = record {
 }
 
 -- all that is written
-pub gains_all : (old new : SinkState) (all : List ℕ) → Gains old new [] all → SinkTakes old new all
+pub gains_all : (old new : SinkState) (all : List ℕ) → GainsBeyond old new [] all → SinkTakes old new all
 gains_all old new all g = subst (λ (x : List ℕ). SinkTakes old new x) (sym g.between) g.taken
 
 pub longer_some : (xs more : List ℕ) → 1 ≤ length xs → 1 ≤ length (xs ++ more)
@@ -62,7 +62,7 @@ pub writes_beyond : (old mid new : SinkState) (before after : List ℕ) → Sink
 writes_beyond old mid new before after taken not =
     subst (λ (all : List ℕ). WritesBeyond old new before all) (sym not.between) (beyond_after old mid new before not.given not.some taken.gained not.failed.front)
 
-not_on : (m : EncMaterialsValue) (size : ℕ) (random written before text : List ℕ) (old mid new : SinkState) (error : ResealError) → Gains old mid written before → GoesNotOn m size random before text mid new error
+not_on : (m : EncMaterialsValue) (size : ℕ) (random written before text : List ℕ) (old mid new : SinkState) (error : ResealError) → GainsBeyond old mid written before → GoesNotOn m size random before text mid new error
     → GoesNotOn m size random written text old new error
 not_on m size random written before text old mid new (errors.Refusal refusal) gained (is, many) =
     (is, record { many = many.many; gained = gains_more old mid new written before _ gained many.gained })
@@ -104,7 +104,7 @@ module _ (first last : ManagerNow) (now : ℕ) (resealer : Resealer) (v : Reseal
 
   pub opens_not : (saying : Saying) (old : SinkState) (unasked unwritten : Type 0) (error : OpenError) → StepsOpener first last now o piece (Err error) opener → unasked → unwritten
       → (next : Resealer) → next.opener ≡ opener → next.stopped ≡ true
-      → Steps first last saying now v piece old old unasked unwritten (Err (opened_as error)) next
+      → ResealerSteps first last saying now v piece old old unasked unwritten (Err (open_error_as error)) next
   opens_not saying old unasked unwritten error s un uw next opener_is off = record {
     answer = Err error;
     opens = subst (λ (p : Opener). StepsOpener first last now o piece (Err error) p) (sym opener_is) s;
@@ -113,7 +113,7 @@ module _ (first last : ManagerNow) (now : ℕ) (resealer : Resealer) (v : Reseal
       manager = un;
       output = uw;
       stands = record {
-        opener = subst (λ (p : Opener). Opens p (stepped o piece s.heard (Err error))) (sym opener_is) s.stands;
+        opener = subst (λ (p : Opener). Opens p (opening_stepped o piece s.heard (Err error))) (sym opener_is) s.stands;
         stopped = off;
         going = λ on. absurd (let no : true ≡ false = on in cc);
       };
@@ -124,7 +124,7 @@ module _ (first last : ManagerNow) (now : ℕ) (resealer : Resealer) (v : Reseal
 
   module _ (used : ℕ) (s : StepsOpener first last now o piece (Ok used) opener) where
     abbrev w : OpeningValue
-    w = stepped o piece s.heard (Ok used)
+    w = opening_stepped o piece s.heard (Ok used)
 
     used_memory : Ok used ≡ Err opens.Memory → ⊥
     used_memory e = let no : is_ok_used (Ok used) ≡ false = ap is_ok_used e in absurd (let bad : true ≡ false = no in cc)
@@ -133,7 +133,7 @@ module _ (first last : ManagerNow) (now : ℕ) (resealer : Resealer) (v : Reseal
         is_ok_used (Ok n) = true
         is_ok_used (Err e) = false
 
-    feeds : Feeds o (take used piece) w w.out
+    feeds : FeedsToOpener o (take used piece) w w.out
     feeds =
         feeds_ok o piece s.heard used goes
         (may_hear (said_last first last) now o.given (asked_header o piece) ⊥ s.heard (sure (said_last first last) now o.given (asked_header o piece) (Ok used ≡ Err opens.Memory) s.heard used_memory s.hears)) s.answers
@@ -145,7 +145,7 @@ module _ (first last : ManagerNow) (now : ℕ) (resealer : Resealer) (v : Reseal
     pub held : HoldsOnly w.answer
     held = held_at s.heard s.hears
       where
-        held_at : (heard : Heard) → IsHeard (said_last first last) now o.given (asked_header o piece) (Ok used ≡ Err opens.Memory) heard → HoldsOnly (stepped o piece heard (Ok used)).answer
+        held_at : (heard : Heard) → IsHeard (said_last first last) now o.given (asked_header o piece) (Ok used ≡ Err opens.Memory) heard → HoldsOnly (opening_stepped o piece heard (Ok used)).answer
         held_at Nothing hears = (stands.going going).held
         held_at (Found m) (h, asks, (finds, rest)) = whole_held h.stored o.given m.context m.only finds.context finds.only
         held_at (Named fault) hears = tt
@@ -158,7 +158,7 @@ module _ (first last : ManagerNow) (now : ℕ) (resealer : Resealer) (v : Reseal
         let on = stays_unlocked o piece (take used piece) (Ok used ≡ Err opens.Memory) s.heard goes may before in
         unlocked_at s.heard on
       where
-        unlocked_at : (heard : Heard) → (judged (o.taken ++ take used piece) o.settings (answer_kept (keeping o heard).answer)).unlocked ≡ true → (judged_now (stepped o piece heard (Ok used))).unlocked ≡ true
+        unlocked_at : (heard : Heard) → (judged (o.taken ++ take used piece) o.settings (answer_kept (keeping o heard).answer)).unlocked ≡ true → (judged_now (opening_stepped o piece heard (Ok used))).unlocked ≡ true
         unlocked_at Nothing e = e
         unlocked_at (Found m) e = e
         unlocked_at (Named fault) e = e
@@ -166,8 +166,8 @@ module _ (first last : ManagerNow) (now : ℕ) (resealer : Resealer) (v : Reseal
 
     module _ (saying : Saying) (old mid : SinkState) (unasked unwritten : Type 0) where
       -- the new message isn't begun
-      pub begins_not : (error : ResealError) → BeginsNot v.materials saying now v.size v.random w old mid unwritten error → (next : Resealer) → next.opener ≡ opener → next.stopped ≡ true
-          → Steps first last saying now v piece old mid unasked unwritten (Err error) next
+      pub begins_not : (error : ResealError) → NewMessageBeginsNot v.materials saying now v.size v.random w old mid unwritten error → (next : Resealer) → next.opener ≡ opener → next.stopped ≡ true
+          → ResealerSteps first last saying now v piece old mid unasked unwritten (Err error) next
       begins_not error why next opener_is off = record {
         answer = Ok used;
         opens = subst (λ (p : Opener). StepsOpener first last now o piece (Ok used) p) (sym opener_is) s;
@@ -188,8 +188,8 @@ module _ (first last : ManagerNow) (now : ℕ) (resealer : Resealer) (v : Reseal
             behind (text_so_far v) w.out (text_on ∙ locked_content w (locked_without v.materials saying now v.random w unasked b.materials b.asks was_unlocked none))
 
         -- the text was passed on
-        pub steps_on : (new : SinkState) (next : Resealer) → GoesOnAs v.size v.random b.materials (text_so_far v) (text_so_far v ++ w.out) mid new next.message (Ok tt) → next.opener ≡ opener → next.stopped ≡ false
-            → Steps first last saying now v piece old new unasked unwritten (Ok used) next
+        pub steps_on : (new : SinkState) (next : Resealer) → NewMessageGoesOnAs v.size v.random b.materials (text_so_far v) (text_so_far v ++ w.out) mid new next.message (Ok tt) → next.opener ≡ opener → next.stopped ≡ false
+            → ResealerSteps first last saying now v piece old new unasked unwritten (Ok used) next
         steps_on new next on opener_is off = record {
           answer = Ok used;
           opens = subst (λ (p : Opener). StepsOpener first last now o piece (Ok used) p) (sym opener_is) s;
@@ -209,15 +209,15 @@ module _ (first last : ManagerNow) (now : ℕ) (resealer : Resealer) (v : Reseal
                 };
               };
               gained = gains_more old mid new (front v) (front_of b.materials v.size v.random (text_so_far v)) (front_of b.materials v.size v.random (content (judged_now w))) b.gained
-                  (subst (λ (t : List ℕ). Gains mid new (front_of b.materials v.size v.random (text_so_far v)) (front_of b.materials v.size v.random t)) text_on on.gained);
+                  (subst (λ (t : List ℕ). GainsBeyond mid new (front_of b.materials v.size v.random (text_so_far v)) (front_of b.materials v.size v.random t)) text_on on.gained);
             },
           );
         }
 
         -- or not, or not all of it
         stops_with : (m : Option EncMaterialsValue) → b.materials ≡ m → (error : ResealError) (new : SinkState) (next : Resealer)
-            → GoesOnAs v.size v.random m (text_so_far v) (text_so_far v ++ w.out) mid new next.message (Err error) → next.opener ≡ opener → next.stopped ≡ true
-            → Steps first last saying now v piece old new unasked unwritten (Err error) next
+            → NewMessageGoesOnAs v.size v.random m (text_so_far v) (text_so_far v ++ w.out) mid new next.message (Err error) → next.opener ≡ opener → next.stopped ≡ true
+            → ResealerSteps first last saying now v piece old new unasked unwritten (Err error) next
         stops_with None is error new next why opener_is off = absurd why
         stops_with (Some m) is error new next why opener_is off = record {
           answer = Ok used;
@@ -232,13 +232,13 @@ module _ (first last : ManagerNow) (now : ℕ) (resealer : Resealer) (v : Reseal
               materials = m;
               asks = subst (λ (x : Option EncMaterialsValue). AsksFor v.materials saying now v.random w unasked x) is b.asks;
               why = not_on m v.size v.random (front v) (front_of (Some m) v.size v.random (text_so_far v)) (content (judged_now w)) old mid new error
-                  (subst (λ (x : Option EncMaterialsValue). Gains old mid (front v) (front_of x v.size v.random (text_so_far v))) is b.gained)
+                  (subst (λ (x : Option EncMaterialsValue). GainsBeyond old mid (front v) (front_of x v.size v.random (text_so_far v))) is b.gained)
                   (subst (λ (t : List ℕ). GoesNotOn m v.size v.random (front_of (Some m) v.size v.random (text_so_far v)) t mid new error) text_on why);
             }),
           );
         }
 
         pub stops_so : (error : ResealError) (new : SinkState) (next : Resealer)
-            → GoesOnAs v.size v.random b.materials (text_so_far v) (text_so_far v ++ w.out) mid new next.message (Err error) → next.opener ≡ opener → next.stopped ≡ true
-            → Steps first last saying now v piece old new unasked unwritten (Err error) next
+            → NewMessageGoesOnAs v.size v.random b.materials (text_so_far v) (text_so_far v ++ w.out) mid new next.message (Err error) → next.opener ≡ opener → next.stopped ≡ true
+            → ResealerSteps first last saying now v piece old new unasked unwritten (Err error) next
         stops_so error new next why opener_is off = stops_with b.materials refl error new next why opener_is off

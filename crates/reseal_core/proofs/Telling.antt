@@ -1,6 +1,7 @@
 -- A run over managers that tell their keys: what is so over any managers, and what these keys make of it.
 use Rattle.std.proofs.Common.{◌≡◌, ◌⊎◌, ℕ, true, false, Bool, List, [], None, Result, Ok, Err, IfOk, inl, inr, sym}
 use Rattle.std.specs.Prelude.{IfErr}
+use Rattle.stream_seal.specs.Start.{drawn_rest}
 use Rattle.esdk_fields.specs.Counts.{Stayed}
 use Rattle.esdk_fields.specs.Place.{start}
 use Rattle.esdk_fields.specs.declared.refusals.Outside.TheVariants as outsides
@@ -18,15 +19,14 @@ use Rattle.keyring_trait.specs.Requests.{EncRequestValue}
 use Rattle.keyring_trait.specs.Unlocking.{Unlocking, Refuses, Unlocks}
 use Rattle.keyring_trait.specs.Wrapping.{WrapKeyValue}
 use Rattle.message_format.specs.Judgement.{content, judged}
-use Rattle.esdk_encrypt.specs.Encrypt.{drawn_rest}
 use Rattle.esdk_encrypt.proofs.Telling.{CountsWraps, is_told, told_more}
-use Rattle.esdk_decrypt.specs.Decrypt.{Answering, HasNoMemory, ManagerFails, answering_of}
+use Rattle.esdk_decrypt.specs.Decrypt.{Answering, DecryptLacksMemory, DecryptManagerFails, answering_of}
 use Rattle.esdk_decrypt.specs.Told.{Reader, answering_by}
 use Rattle.esdk_decrypt.proofs.Told.{Allows, answered_allowed, asked_of, failing_allowed, reader_allows}
 use Rattle.reseal_core.specs.declared.errors.InputError.{InputError}
 use Rattle.reseal_core.specs.declared.errors.InputError.TheVariants as errors
 use Rattle.reseal_core.specs.Front.{request_for}
-use Rattle.reseal_core.specs.Reseal.{EndsSo, HasMaterials, OpensFirst, Passes, RefusesMessage, Reseals, ResealEnds, Resealing, ResealsInput, RefusesHeader, WritesBy, WritesFirst, WritesFront, resealing_from}
+use Rattle.reseal_core.specs.Reseal.{ResealEndsSo, HasMaterials, OpensFirst, Passes, RefusesMessage, Reseals, ResealEnds, Resealing, ResealsInput, RefusesHeader, WritesBy, WritesFirst, ResealWritesFront, resealing_from}
 use Rattle.reseal_core.specs.Told.{resealing_told}
 
 -- What a manager gives, and why it gives nothing.
@@ -55,7 +55,7 @@ module _ (from to : Answering) (settings : Settings) (given : List KeyValue) (fi
   has_more : (drawn : List ℕ) (whole only : List KeyValue) (m : EncMaterialsValue) → HasMaterials a drawn whole only m → HasMaterials b drawn whole only m
   has_more drawn whole only m has = record { given = more.gives (request_for whole only) (drawn_rest drawn) m has.given; sound = has.sound; begins = has.begins }
 
-  front_more : (drawn : List ℕ) (whole only : List KeyValue) (text : List ℕ) (output put : SinkState) → WritesFront a drawn whole only text output put → WritesFront b drawn whole only text output put
+  front_more : (drawn : List ℕ) (whole only : List KeyValue) (text : List ℕ) (output put : SinkState) → ResealWritesFront a drawn whole only text output put → ResealWritesFront b drawn whole only text output put
   front_more drawn whole only text output put front = record { materials = front.materials; has = has_more drawn whole only front.materials front.has; room = front.room; gained = front.gained }
 
   writes_more : (drawn : List ℕ) (answer : Unlocking) (text : List ℕ) (unlocked : Bool) (output put : SinkState) → WritesBy a drawn answer text unlocked output put → WritesBy b drawn answer text unlocked output put
@@ -95,10 +95,10 @@ module _ (from to : Answering) (settings : Settings) (given : List KeyValue) (fi
     gained = r.gained;
   }
 
-  fails_more : (input taken : SourceState) → ManagerFails a.opening input taken → ManagerFails b.opening input taken
+  fails_more : (input taken : SourceState) → DecryptManagerFails a.opening input taken → DecryptManagerFails b.opening input taken
   fails_more input taken f = record { bytes = f.bytes; came = f.came; faults = f.faults; failed = failing_allowed from to given f.bytes (header settings (start f.bytes)) allows f.failed; last = f.last }
 
-  lacks_more : (input taken : SourceState) → HasNoMemory a.opening input taken → HasNoMemory b.opening input taken
+  lacks_more : (input taken : SourceState) → DecryptLacksMemory a.opening input taken → DecryptLacksMemory b.opening input taken
   lacks_more input taken l = record {
     before = l.before;
     last = l.last;
@@ -115,7 +115,7 @@ module _ (from to : Answering) (settings : Settings) (given : List KeyValue) (fi
   starts_more : (drawn : List ℕ) (whole only : List KeyValue) (refusal : Refusal) → RefusesHeader a drawn whole only refusal → RefusesHeader b drawn whole only refusal
   starts_more drawn whole only refusal s = record { materials = s.materials; given = more.gives (request_for whole only) (drawn_rest drawn) s.materials s.given; sound = s.sound; refused = s.refused }
 
-  pub ends_more : (drawn : List ℕ) (input taken : SourceState) (output put : SinkState) (error : InputError) → EndsSo a drawn input taken output put error → EndsSo b drawn input taken output put error
+  pub ends_more : (drawn : List ℕ) (input taken : SourceState) (output put : SinkState) (error : InputError) → ResealEndsSo a drawn input taken output put error → ResealEndsSo b drawn input taken output put error
   ends_more drawn input taken output put (errors.Fault fault) e =
       record { bytes = e.bytes; answer = e.answer; passes = passes_more drawn input taken output put e.bytes e.answer e.passes; faults = e.faults; cause = e.cause; last = e.last }
   ends_more drawn input taken output put (errors.Refusal refusal) (inl e) = inl (refuses_more e.why)

@@ -8,23 +8,23 @@ use Rattle.esdk_fields.specs.Reading.{Reading, Read, Refused, Wanting, value_of}
 use Rattle.esdk_base.specs.Streams.{SinkState}
 use Rattle.context_codec.specs.Context.{KeyValue}
 use Rattle.header_codec.specs.declared.settings.Settings.{Settings}
-use Rattle.header_codec.specs.Table.{Head, head, header}
+use Rattle.header_codec.specs.Table.{HeaderFields, head, header}
 use Rattle.keyring_trait.specs.Manager.{ManagerNow}
 use Rattle.keyring_trait.specs.Materials.{EncMaterialsValue}
 use Rattle.keyring_trait.specs.Saying.{said_last}
 use Rattle.keyring_trait.specs.Unlocking.{Unlocking, Refuses, Unlocks}
 use Rattle.stream_open.specs.declared.errors.OpenError.{OpenError}
 use Rattle.stream_open.specs.declared.errors.OpenError.TheVariants as opens
-use Rattle.stream_open.specs.Session.{asked_header, stepped}
-use Rattle.stream_open.specs.Session.{new_session as new_opening}
-use Rattle.stream_open.specs.Stands.{Steps as StepsOpener}
+use Rattle.stream_open.specs.Session.{asked_header, opening_stepped}
+use Rattle.stream_open.specs.Session.{new_opening_session as new_opening}
+use Rattle.stream_open.specs.Stands.{OpenerSteps as StepsOpener}
 use Rattle.stream_open.proofs.FedPieces.{joins}
 use Rattle.esdk_decrypt.specs.Decrypt.{Answering, AnswersReading, AnswersTo, answering_of}
 use Rattle.esdk_decrypt.proofs.Breaking.{headless_before, none_asked}
 use Rattle.reseal_core.specs.declared.errors.ResealError.{ResealError}
 use Rattle.reseal_core.specs.declared.resealer.Resealer.{Resealer}
-use Rattle.reseal_core.specs.Session.{ResealingValue, gone_on, new_session}
-use Rattle.reseal_core.specs.Stands.{AsksFor, SealsAfter, Steps}
+use Rattle.reseal_core.specs.Session.{ResealingValue, gone_on, new_resealing_session}
+use Rattle.reseal_core.specs.Stands.{AsksFor, SealsAfter, ResealerSteps}
 use Rattle.reseal_core.specs.Underway.{AreMade, IsMade, Reached}
 use Rattle.reseal_core.proofs.Reaching.{answer, answer_kept_is, answers, opens_here}
 
@@ -33,7 +33,7 @@ use Rattle.reseal_core.proofs.Reaching.{answer, answer_kept_is, answers, opens_h
 refuses_not : (whole only : List KeyValue) (key : List ℕ) (fault : Fault) → Unlocks whole only key ≡ Refuses fault → ⊥
 refuses_not whole only key fault e = cc
 
-unlocks_by : (manager : Answering) (given : List KeyValue) (b : List ℕ) (whole only : List KeyValue) (key : List ℕ) (r : Reading Head) → value_of r ≡ None
+unlocks_by : (manager : Answering) (given : List KeyValue) (b : List ℕ) (whole only : List KeyValue) (key : List ℕ) (r : Reading HeaderFields) → value_of r ≡ None
     → AnswersReading manager given b r (Unlocks whole only key) → ⊥
 unlocks_by manager given b whole only key (Read parts p) none answered = absurd (let no : Some parts ≡ None = none in cc)
 unlocks_by manager given b whole only key (Refused fault at) none answered = refuses_not whole only key fault answered
@@ -44,7 +44,7 @@ unlocks_header : (manager : Answering) (settings : Settings) (given : List KeyVa
 unlocks_header manager settings given b whole only key none answered = unlocks_by manager given b whole only key (header settings (start b)) none answered
 
 module _ {A B : Type 0} (opened : A → ManagerNow) (sealed : B → ManagerNow) (now : ℕ) (settings : Settings) (given : List KeyValue) (size : ℕ) (random : List ℕ) (bytes : List ℕ) (old new : A) (before after : B)
-    (output put : SinkState) (resealer : Resealer) (r : Reached opened sealed now (new_session settings given size random) bytes old new before after output put resealer) where
+    (output put : SinkState) (resealer : Resealer) (r : Reached opened sealed now (new_resealing_session settings given size random) bytes old new before after output put resealer) where
   -- there are no materials yet
   none_made : (m : EncMaterialsValue) → head settings bytes ≡ None → r.materials ≡ Some m → ⊥
   none_made m none is =
@@ -68,14 +68,14 @@ module _ {A B : Type 0} (opened : A → ManagerNow) (sealed : B → ManagerNow) 
   module _ (rest : List ℕ) (last : A) (end : B) (now_put : SinkState) (next : Resealer) (unwritten : Type 0) (some : 1 ≤ length rest) (stays : asked_header r.fed.session rest ≡ None → last ≡ new)
       (none : head settings (bytes ++ rest) ≡ None) where
     abbrev v : ResealingValue
-    v = gone_on (new_session settings given size random) r.fed.session r.materials
+    v = gone_on (new_resealing_session settings given size random) r.fed.session r.materials
 
     none_first : head settings bytes ≡ None
     none_first = headless_before settings bytes rest (head settings bytes) refl none
 
     -- the old message isn't unlocked
     opens_none : (used : ℕ) (s : StepsOpener (opened new) (opened last) now r.fed.session rest (Ok used) next.opener) (whole only : List KeyValue) (key : List ℕ)
-        → (stepped r.fed.session rest s.heard (Ok used)).answer ≡ Some (Unlocks whole only key) → ⊥
+        → (opening_stepped r.fed.session rest s.heard (Ok used)).answer ≡ Some (Unlocks whole only key) → ⊥
     opens_none used s whole only key e =
         let b : List ℕ = bytes ++ take used rest in
         let all : b ++ drop used rest ≡ bytes ++ rest = append_assoc bytes (take used rest) (drop used rest) ∙ ap (λ (l : List ℕ). bytes ++ l) (take-append-drop used rest) in
@@ -84,17 +84,17 @@ module _ {A B : Type 0} (opened : A → ManagerNow) (sealed : B → ManagerNow) 
         (headless_before settings b (drop used rest) (head settings b) refl (ap (λ (l : List ℕ). head settings l) all ∙ none)) here.answers
 
     asks_none : (m : EncMaterialsValue) (o : Option EncMaterialsValue) (used : ℕ) (s : StepsOpener (opened new) (opened last) now r.fed.session rest (Ok used) next.opener) → r.materials ≡ o
-        → AsksFor o (said_last (sealed after) (sealed end)) now random (stepped r.fed.session rest s.heard (Ok used)) (end ≡ after) (Some m) → ⊥
+        → AsksFor o (said_last (sealed after) (sealed end)) now random (opening_stepped r.fed.session rest s.heard (Ok used)) (end ≡ after) (Some m) → ⊥
     asks_none m (Some n) used s is asks = none_made n none_first is
     asks_none m None used s is asks = opens_none used s asks.whole asks.only asks.opened.key asks.opened.answer
 
     sealing_by : (error : ResealError) (answer : Result ℕ OpenError) (s : StepsOpener (opened new) (opened last) now r.fed.session rest answer next.opener)
-        → SealsAfter (said_last (sealed after) (sealed end)) now v (stepped r.fed.session rest s.heard answer) answer put now_put (end ≡ after) unwritten (Err error) next → end ≡ after
+        → SealsAfter (said_last (sealed after) (sealed end)) now v (opening_stepped r.fed.session rest s.heard answer) answer put now_put (end ≡ after) unwritten (Err error) next → end ≡ after
     sealing_by error (Err why) s not = not.manager
     sealing_by error (Ok used) s (stopped, inl b) = absurd (opens_none used s b.whole b.only b.opened.key b.opened.answer)
     sealing_by error (Ok used) s (stopped, inr p) = absurd (asks_none p.materials r.materials used s refl p.asks)
 
-    pub step_unasked : (error : ResealError) → Steps (opened new) (opened last) (said_last (sealed after) (sealed end)) now v rest put now_put (end ≡ after) unwritten (Err error) next → (last ≡ old) × (end ≡ before)
+    pub step_unasked : (error : ResealError) → ResealerSteps (opened new) (opened last) (said_last (sealed after) (sealed end)) now v rest put now_put (end ≡ after) unwritten (Err error) next → (last ≡ old) × (end ≡ before)
     step_unasked error s =
         let j = joins opened now (new_opening settings given) bytes rest r.text old new last resealer.opener r.fed (s.answer ≡ Err opens.Memory) s.opens.heard s.opens.hears s.opens.bears stays in
         (j.unasked (none_asked settings given (bytes ++ rest) none), sealing_by error s.answer s.opens s.seals ∙ unasked_yet r.materials refl none_first)

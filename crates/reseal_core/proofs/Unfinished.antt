@@ -40,8 +40,8 @@ use Rattle.message_format.proofs.Judging.{judged_read}
 use Rattle.message_format.proofs.WrittenHeads.{begins_written, body_place, header_found, length-header_tag, written}
 use Rattle.message_format.proofs.WrittenMessages.{header_same}
 use Rattle.stream_seal.specs.Feeding.{frames_given}
-use Rattle.stream_seal.specs.Start.{message_of, start_of}
-use Rattle.esdk_encrypt.specs.Encrypt.{drawn_id, written_so_far}
+use Rattle.stream_seal.specs.Start.{message_of, start_of, drawn_id}
+use Rattle.esdk_encrypt.specs.Encrypt.{written_so_far}
 use Rattle.reseal_core.specs.Front.{front_of}
 use Rattle.reseal_core.proofs.FrontsLeft.{followed, last}
 

@@ -7,7 +7,7 @@ use Rattle.esdk_fields.specs.Reading.{Reading, Read, Refused, Wanting}
 use Rattle.context_codec.specs.Context.{KeyValue}
 use Rattle.header_codec.specs.declared.settings.Settings.{Settings}
 use Rattle.header_codec.specs.Header.{HeaderValue}
-use Rattle.header_codec.specs.Table.{Head, header}
+use Rattle.header_codec.specs.Table.{HeaderFields, header}
 use Rattle.keyring_trait.specs.Unlocking.{Unlocking, Refuses, Unlocks}
 use Rattle.body_format.specs.declared.verdicts.Verdict.TheVariants as verdicts
 use Rattle.message_format.specs.Judgement.{Judged, content, header_of, judged, judged_lock, judged_reading, lock_fault}
@@ -20,12 +20,12 @@ use Rattle.stream_open.specs.Session.{OpeningValue, answer_kept, asked_header, j
 use Rattle.stream_open.proofs.AnyCut.{heard_same}
 use Rattle.stream_open.proofs.GoingOn.{Standing, InHeader, Behind, standing}
 use Rattle.stream_open.proofs.Standing.{judged_unlocked}
-use Rattle.esdk_decrypt.specs.Decrypt.{AnswersReading, Asked, MayLackMemory}
-use Rattle.reseal_core.specs.Stands.{IsOpen}
+use Rattle.esdk_decrypt.specs.Decrypt.{AnswersReading, DecryptAsked, MayLackMemory}
+use Rattle.reseal_core.specs.Stands.{OldMessageIsOpen}
 
 -- ---- an unlocked message has an answer that unlocks it
 
-refused_reading : (b : List ℕ) (settings : Settings) (fault : Fault) (r : Reading Head) → (judged_reading b settings (Refuses fault) r).unlocked ≡ false
+refused_reading : (b : List ℕ) (settings : Settings) (fault : Fault) (r : Reading HeaderFields) → (judged_reading b settings (Refuses fault) r).unlocked ≡ false
 refused_reading b settings fault (Read parts p) = refl
 refused_reading b settings fault (Refused other at) = refl
 refused_reading b settings fault Wanting = refl
@@ -41,7 +41,7 @@ true_false b e f = absurd (let no : true ≡ false = sym e ∙ f in cc)
 pub record OpenWith (v : OpeningValue) : Type 0 where
   pub whole : List KeyValue
   pub only : List KeyValue
-  pub open_is : IsOpen v whole only
+  pub open_is : OldMessageIsOpen v whole only
   pub whole_is : whole_context v ≡ Some whole
   pub only_is : only_authenticated v ≡ Some only
 
@@ -77,7 +77,7 @@ same_some : {A : Type 0} (a b : A) → Some a ≡ Some b → a ≡ b
 same_some a b e = cc
 
 -- and it is open with what is told
-pub told_open : (v : OpeningValue) (whole only : List KeyValue) → whole_context v ≡ Some whole → only_authenticated v ≡ Some only → IsOpen v whole only
+pub told_open : (v : OpeningValue) (whole only : List KeyValue) → whole_context v ≡ Some whole → only_authenticated v ≡ Some only → OldMessageIsOpen v whole only
 told_open v whole only whole_is only_is =
     let o = open_with v (told_unlocked v whole whole_is) in
     rw (same_some whole o.whole (sym whole_is ∙ o.whole_is), same_some only o.only (sym only_is ∙ o.only_is)) o.open_is
@@ -88,7 +88,7 @@ locked_lock : (settings : Settings) (h : HeaderValue) (key : List ℕ) (p : Plac
 locked_lock settings h key p (Some fault) e = refl
 locked_lock settings h key p None e = absurd (let no : true ≡ false = e in cc)
 
-locked_reading : (b : List ℕ) (settings : Settings) (a : Unlocking) (r : Reading Head) → (judged_reading b settings a r).unlocked ≡ false → content (judged_reading b settings a r) ≡ []
+locked_reading : (b : List ℕ) (settings : Settings) (a : Unlocking) (r : Reading HeaderFields) → (judged_reading b settings a r).unlocked ≡ false → content (judged_reading b settings a r) ≡ []
 locked_reading b settings (Refuses fault) (Read parts p) e = refl
 locked_reading b settings (Unlocks whole only key) (Read parts p) e = locked_lock settings (header_of b parts) key p (lock_fault (header_of b parts) only key) e
 locked_reading b settings a (Refused fault at) e = refl
@@ -105,7 +105,7 @@ whole_lock : (settings : Settings) (h : HeaderValue) (key : List ℕ) (p : Place
 whole_lock settings h key p (Some fault) e = absurd (let no : verdicts.Faulty fault ≡ verdicts.Whole = e in cc)
 whole_lock settings h key p None e = refl
 
-whole_reading : (b : List ℕ) (settings : Settings) (a : Unlocking) (r : Reading Head) → (judged_reading b settings a r).verdict ≡ verdicts.Whole → (judged_reading b settings a r).unlocked ≡ true
+whole_reading : (b : List ℕ) (settings : Settings) (a : Unlocking) (r : Reading HeaderFields) → (judged_reading b settings a r).verdict ≡ verdicts.Whole → (judged_reading b settings a r).unlocked ≡ true
 whole_reading b settings (Refuses fault) (Read parts p) e = absurd (let no : verdicts.Faulty fault ≡ verdicts.Whole = e in cc)
 whole_reading b settings (Unlocks whole only key) (Read parts p) e = whole_lock settings (header_of b parts) key p (lock_fault (header_of b parts) only key) e
 whole_reading b settings a (Refused fault at) e = absurd (let no : verdicts.Faulty fault ≡ verdicts.Whole = e in cc)
@@ -136,12 +136,12 @@ still_in_header v goes locked = wants_by v locked (standing v goes)
 -- ---- memory that may run out
 
 -- before a header is whole
-pub lacks_wanting : (asked : Asked) (bytes : List ℕ) → header asked.settings (start bytes) ≡ Wanting → MayLackMemory asked bytes
+pub lacks_wanting : (asked : DecryptAsked) (bytes : List ℕ) → header asked.settings (start bytes) ≡ Wanting → MayLackMemory asked bytes
 lacks_wanting asked bytes wants =
     let is = judged_wanting bytes asked.settings (Refuses Truncated) wants in
     record {
       answer = Refuses Truncated;
-      answered = subst (λ (r : Reading Head). AnswersReading asked.manager asked.given bytes r (Refuses Truncated)) (sym wants) refl;
+      answered = subst (λ (r : Reading HeaderFields). AnswersReading asked.manager asked.given bytes r (Refuses Truncated)) (sym wants) refl;
       going = ap (λ (j : Judged). j.verdict) is;
       unreserved = λ unlocked. absurd (let no : false ≡ true = sym (ap (λ (j : Judged). j.unlocked) is) ∙ unlocked in cc);
     }

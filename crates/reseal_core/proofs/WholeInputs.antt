@@ -13,7 +13,7 @@ use Rattle.esdk_fields.specs.declared.refusals.Outside.TheVariants as outsides
 use Rattle.esdk_fields.specs.declared.refusals.Refusal.{Refusal}
 use Rattle.context_codec.specs.Context.{KeyValue}
 use Rattle.header_codec.specs.Header.{HeaderValue}
-use Rattle.header_codec.specs.Table.{Head, header, opening}
+use Rattle.header_codec.specs.Table.{HeaderFields, header, opening}
 use Rattle.header_codec.specs.declared.settings.Settings.{Settings}
 use Rattle.header_codec.proofs.Order.{IsSequential-header}
 use Rattle.keyring_trait.specs.Manager.{ManagerMeaning, request_refusal}
@@ -27,20 +27,20 @@ use Rattle.message_format.specs.Reading.{unlock_header}
 use Rattle.message_format.proofs.Following.{faults_stay, header_stays, units_stay}
 use Rattle.message_format.proofs.Judging.{judged_refused, judged_wanting}
 use Rattle.message_format.proofs.ReadingOn.{read_goes_on, read_is, unlocking_is}
-use Rattle.stream_seal.specs.Start.{message_of, start_refusal}
+use Rattle.stream_seal.specs.Start.{message_of, start_refusal, drawn_id}
 use Rattle.whole_input.specs.Taken.{Came, EndSeen}
-use Rattle.esdk_encrypt.specs.Encrypt.{Drew, drawn_id, written_so_far}
+use Rattle.esdk_encrypt.specs.Encrypt.{Drew, written_so_far}
 use Rattle.esdk_encrypt.specs.Laws.{NoObjectFails}
 use Rattle.esdk_encrypt.specs.Told.{message_by}
 use Rattle.esdk_encrypt.proofs.Fitting.{few_begin}
 use Rattle.esdk_decrypt.specs.Decrypt.{fault_at_end, fault_of}
-use Rattle.esdk_decrypt.specs.Told.{Reader, judged_by}
+use Rattle.esdk_decrypt.specs.Told.{Reader, judged_by, unlocked_to}
 use Rattle.esdk_decrypt.proofs.Readers.{answers_unlocking, judged_reader, never_fails}
 use Rattle.reseal_core.specs.declared.errors.InputError.{InputError}
 use Rattle.reseal_core.specs.declared.errors.InputError.TheVariants as errors
 use Rattle.reseal_core.specs.Front.{AreSound}
-use Rattle.reseal_core.specs.Laws.{HasFaultAndFront, IsNoMessage, IsResealable, IsResealed, front_by, new_writer, unlocked_to}
-use Rattle.reseal_core.specs.Reseal.{HasFault, OpensFirst, RefusesMessage, Reseals, ResealEnds, Resealing, ResealsInput, RefusesHeader, WritesBy}
+use Rattle.reseal_core.specs.Laws.{HasFaultAndFront, IsNoMessage, IsResealable, IsResealed, front_by, new_writer}
+use Rattle.reseal_core.specs.Reseal.{ResealFindsFault, OpensFirst, RefusesMessage, Reseals, ResealEnds, Resealing, ResealsInput, RefusesHeader, WritesBy}
 use Rattle.reseal_core.specs.Told.{resealing_told}
 use Rattle.reseal_core.proofs.NewMaterials.{CanSeal, limits_of_count, materials, writable}
 use Rattle.reseal_core.proofs.Unfinished.{whole_to_nobody}
@@ -98,7 +98,7 @@ module _ (reader : Reader) where
       at_answer : (judged b reader.settings (unlocked_to reader b)).unlocked ≡ true
       at_answer = sym (ap (λ (j : Judged). j.unlocked) (read_is b reader.settings reader.given reader.required reader.keys)) ∙ e
 
-      by : (r : Reading Head) → header reader.settings (start b) ≡ r → unlocked_to reader (b ++ more) ≡ unlocked_to reader b
+      by : (r : Reading HeaderFields) → header reader.settings (start b) ≡ r → unlocked_to reader (b ++ more) ≡ unlocked_to reader b
       by (Read parts p) is =
           unlocking_is (b ++ more) reader.settings reader.given reader.required reader.keys (Read parts (followed p more))
           (value_stays (header reader.settings) b more parts p (IsSequential-header reader.settings) is)
@@ -172,7 +172,7 @@ module _ (reader : Reader) where
 
     -- ---- its first fault
 
-    module _ (bytes : List ℕ) (input taken : SourceState) (output put : SinkState) (entropy spent : EntropyState) (fault : Fault) (drawn : List ℕ) (told : input.left ≡ Some bytes) (has : HasFault run drawn input taken output put fault) where
+    module _ (bytes : List ℕ) (input taken : SourceState) (output put : SinkState) (entropy spent : EntropyState) (fault : Fault) (drawn : List ℕ) (told : input.left ≡ Some bytes) (has : ResealFindsFault run drawn input taken output put fault) where
       here : judged has.bytes reader.settings has.answer ≡ judged_by reader has.bytes
       here = judged_reader reader has.bytes has.answer has.passes.answered
 

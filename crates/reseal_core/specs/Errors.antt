@@ -11,11 +11,11 @@ use Rattle.reseal_core.specs.declared.errors.InputError.{InputError}
 use Rattle.reseal_core.specs.declared.errors.InputError.TheVariants as inputs
 
 -- an opener's error
-abbrev pub opened_as : OpenError → ResealError
-opened_as (opens.Fault fault) = errors.Fault fault
-opened_as opens.KeyringFault = errors.KeyringFault
-opened_as opens.Stopped = errors.Stopped
-opened_as opens.Memory = errors.Memory
+abbrev pub open_error_as : OpenError → ResealError
+open_error_as (opens.Fault fault) = errors.Fault fault
+open_error_as opens.KeyringFault = errors.KeyringFault
+open_error_as opens.Stopped = errors.Stopped
+open_error_as opens.Memory = errors.Memory
 
 -- an error of the manager of the new message
 abbrev pub given_as : ManagerError → ResealError

@@ -1,6 +1,7 @@
 -- What is written of the new message: its front while the old one goes on, and all of it at the
 -- end.
 use Rattle.std.specs.Prelude.{◌≡◌, ◌≤◌, ℕ, List, [], ◌++◌, length, Option, Some, None}
+use Rattle.stream_seal.specs.Start.{drawn_id}
 use Rattle.esdk_base.specs.Receiver.{SinkFails, SinkTakes}
 use Rattle.esdk_base.specs.Streams.{SinkState}
 use Rattle.context_codec.specs.Context.{IsContext, KeyValue}
@@ -10,7 +11,7 @@ use Rattle.keyring_trait.specs.Materials.{AreEncMaterials, EncMaterialsValue}
 use Rattle.keyring_trait.specs.Requests.{EncRequestValue}
 use Rattle.message_format.specs.Judgement.{Judged, content}
 use Rattle.message_format.specs.Message.{message}
-use Rattle.esdk_encrypt.specs.Encrypt.{drawn_id, written_so_far}
+use Rattle.esdk_encrypt.specs.Encrypt.{written_so_far}
 
 -- The new message of what a judgement releases: over the whole context of the old one. The keys of
 -- the pairs that were only authenticated are required of its reader.
@@ -38,7 +39,7 @@ front_of None size random text = []
 front_of (Some m) size random text = written_so_far m size (drawn_id random) text
 
 -- A sink gained what the second of these fronts has beyond the first, and no put failed.
-pub record Gains (old new : SinkState) (before after : List ℕ) : Type 0 where
+pub record GainsBeyond (old new : SinkState) (before after : List ℕ) : Type 0 where
   pub given : List ℕ
   pub between : after ≡ before ++ given
   pub taken : SinkTakes old new given

@@ -17,14 +17,13 @@ use Rattle.body_format.specs.declared.verdicts.Verdict.TheVariants.{Going, Whole
 use Rattle.message_format.specs.Judgement.{content, judged}
 use Rattle.message_format.specs.Laws.{IsWithinLimits, whole_of_text}
 use Rattle.message_format.specs.Message.{IsWritable}
-use Rattle.message_format.specs.Reading.{unlocking}
-use Rattle.stream_seal.specs.Start.{message_of, most_text}
-use Rattle.esdk_encrypt.specs.Encrypt.{Drew, drawn_id, drawn_rest, written_so_far}
+use Rattle.stream_seal.specs.Start.{message_of, most_text, drawn_id, drawn_rest}
+use Rattle.esdk_encrypt.specs.Encrypt.{Drew, written_so_far}
 use Rattle.esdk_encrypt.specs.Laws.{NoObjectFails}
-use Rattle.esdk_encrypt.specs.Told.{Writer, materials_of, message_by, writer_of}
+use Rattle.esdk_encrypt.specs.Told.{Writer, drawn_materials, message_by, writer_of}
 use Rattle.esdk_decrypt.specs.Decrypt.{HasContext, fault_at_end}
 use Rattle.esdk_decrypt.specs.Laws.{IsWholeInput, IsWrittenFor, Written, written_message}
-use Rattle.esdk_decrypt.specs.Told.{Reader, judged_by}
+use Rattle.esdk_decrypt.specs.Told.{Reader, judged_by, unlocked_to}
 use Rattle.reseal_core.specs.declared.errors.InputError.{InputError}
 use Rattle.reseal_core.specs.declared.errors.InputError.TheVariants as errors
 use Rattle.reseal_core.specs.declared.resealer.Resealer.{Resealer}
@@ -34,11 +33,6 @@ use Rattle.reseal_core.specs.Session.{ResealingValue}
 use Rattle.reseal_core.specs.Stands.{Stands}
 use Rattle.reseal_core.specs.Told.{resealing_told}
 
--- what the bytes unlock to for this reader
-abbrev pub unlocked_to : Reader → List ℕ → Unlocking
-unlocked_to reader bytes =
-    unlocking bytes reader.settings reader.given reader.required reader.keys
-
 -- who writes the new message of what is unlocked with this whole context and these pairs that are
 -- only authenticated
 abbrev pub new_writer : List WrapKeyValue → ManagerMeaning → ℕ → List KeyValue → List KeyValue
@@ -47,7 +41,7 @@ new_writer keys sealing size whole only =
     writer_of keys sealing (request_for whole only) size None
 
 -- No limit is passed by a message in frames of this length with so many entries.
-pub record IsAllowed (settings : Settings) (size count : ℕ) : Type 0 where
+pub record NewMessageIsAllowed (settings : Settings) (size count : ℕ) : Type 0 where
   pub max_keys : IfSome settings.max_keys (λ most. count ≤ most)
   pub max_unit : IfSome settings.max_unit (λ most. size ≤ most)
 
@@ -114,7 +108,7 @@ ResealsNothingElse = (reader : Reader) (keys : List WrapKeyValue) (old new : Man
 abbrev pub front_by : (List KeyValue → List KeyValue → Writer) → List ℕ → Unlocking → Bool → List ℕ
     → List ℕ
 front_by writer drawn (Unlocks whole only key) true text =
-    written_so_far (materials_of (writer whole only) (drawn_rest drawn)) (writer whole only).size
+    written_so_far (drawn_materials (writer whole only) (drawn_rest drawn)) (writer whole only).size
     (drawn_id drawn) text
 front_by writer drawn answer unlocked text = []
 
@@ -123,7 +117,7 @@ front_by writer drawn answer unlocked text = []
 -- length.
 abbrev pub IsNoMessage : List ℕ → ℕ → ℕ → Type 0
 IsNoMessage bytes size count = 1 ≤ size → size < 2 ^ 32
-    → (settings : Settings) (answer : Unlocking) → IsAllowed settings size count
+    → (settings : Settings) (answer : Unlocking) → NewMessageIsAllowed settings size count
     → (judged bytes settings answer).verdict ≢ Whole
 
 -- All of the input has this fault. The output gained what is written of what it releases, without
@@ -143,8 +137,8 @@ pub record HasFaultAndFront (reader : Reader) (keys : List WrapKeyValue) (sealin
       size (length (active keys))
 
 -- A fault that is answered is that of all of the input, however little of it was taken.
-abbrev pub NamesTheFirstFault : Type 0
-NamesTheFirstFault = (reader : Reader) (keys : List WrapKeyValue) (old new : ManagerMeaning)
+abbrev pub ResealNamesTheFirstFault : Type 0
+ResealNamesTheFirstFault = (reader : Reader) (keys : List WrapKeyValue) (old new : ManagerMeaning)
     (size : ℕ) (bytes : List ℕ) (input taken : SourceState) (output put : SinkState)
     (entropy spent : EntropyState) (fault : Fault)
     → input.left ≡ Some bytes
@@ -154,8 +148,8 @@ NamesTheFirstFault = (reader : Reader) (keys : List WrapKeyValue) (old new : Man
 
 -- Of what is written while the old message goes on, whoever judges the new message of that text as
 -- whole wants more bytes.
-abbrev pub FrontsGoOn : Type 0
-FrontsGoOn = (m : EncMaterialsValue) (size : ℕ) (random text : List ℕ) (settings : Settings)
+abbrev pub WrittenFrontsGoOn : Type 0
+WrittenFrontsGoOn = (m : EncMaterialsValue) (size : ℕ) (random text : List ℕ) (settings : Settings)
     (answer : Unlocking) → 1 ≤ size
     → (judged (message_of m size (drawn_id random) text) settings answer).verdict ≡ Whole
     → (judged (front_of (Some m) size random text) settings answer).verdict ≡ Going
@@ -183,7 +177,7 @@ pub record ReadsNew (m : Written) (keys : List WrapKeyValue) (demands : List (Li
   pub held : Contains reader.keys own
   pub shared : IsSameKey writer own
   pub apart : AreApart (active keys) reader.keys
-  pub allowed : IsAllowed reader.settings size (length (active keys))
+  pub allowed : NewMessageIsAllowed reader.settings size (length (active keys))
   pub enough : IsEnough m.context m.required reader.given
   pub demanded : AreGiven demands reader.given
   pub given : AreGiven reader.required reader.given
@@ -207,8 +201,8 @@ pub record IsRotated (m : Written) (keys : List WrapKeyValue) (demands : List (L
       → ReadsAs reader (written_message new) m.text m.context size
 
 -- What a message is resealed to that was written for the reader.
-abbrev pub RotatesWhatIsWritten : Type 0
-RotatesWhatIsWritten = (reader : Reader) (writers keys : List WrapKeyValue) (m : Written)
+abbrev pub ResealRotatesWhatIsWritten : Type 0
+ResealRotatesWhatIsWritten = (reader : Reader) (writers keys : List WrapKeyValue) (m : Written)
     (old new : ManagerMeaning) (size : ℕ) (input taken : SourceState) (output put : SinkState)
     (entropy spent : EntropyState) (context : List KeyValue)
     → IsWrittenFor reader writers m → 1 ≤ size → size < 2 ^ 32

@@ -24,13 +24,13 @@ use Rattle.keyring_trait.specs.Saying.{Saying, said_last}
 use Rattle.keyring_trait.specs.Unlocking.{Unlocking, Unlocks}
 use Rattle.body_format.specs.declared.verdicts.Verdict.TheVariants.{Whole}
 use Rattle.message_format.specs.Judgement.{Judged, content, judged}
-use Rattle.stream_seal.specs.Start.{message_of, most_text, start_refusal}
+use Rattle.stream_seal.specs.Start.{message_of, most_text, start_refusal, drawn_id, drawn_rest}
 use Rattle.whole_input.specs.Pieces.{APieceBehind, most_piece}
 use Rattle.whole_input.specs.Taken.{Came, EndSeen, MostTaken}
 use Rattle.whole_input.specs.Written.{WritesBeyond}
-use Rattle.esdk_encrypt.specs.Encrypt.{Drew, EntropyFails, drawn_id, drawn_rest, written_so_far}
-use Rattle.esdk_decrypt.specs.Decrypt.{Asked, AnswersTo, ManagerFails, asked_from}
-use Rattle.esdk_decrypt.specs.Decrypt.{HasNoMemory as LacksMemory, fault_at_end, fault_of}
+use Rattle.esdk_encrypt.specs.Encrypt.{Drew, EntropyFails, written_so_far}
+use Rattle.esdk_decrypt.specs.Decrypt.{DecryptAsked, AnswersTo, DecryptManagerFails, asked_from}
+use Rattle.esdk_decrypt.specs.Decrypt.{DecryptLacksMemory as LacksMemory, fault_at_end, fault_of}
 use Rattle.reseal_core.specs.declared.errors.InputError.{InputError}
 use Rattle.reseal_core.specs.declared.errors.InputError.TheVariants as errors
 use Rattle.reseal_core.specs.Front.{AreSound, request_for}
@@ -39,14 +39,14 @@ use Rattle.reseal_core.specs.Front.{AreSound, request_for}
 -- makes, what it gives to a request with these random bytes, and why it gives nothing; and the new
 -- frame length.
 pub record Resealing : Type 1 where
-  pub opening : Asked
+  pub opening : DecryptAsked
   pub wraps : ℕ
   pub gives : EncRequestValue → List ℕ → EncMaterialsValue → Type 0
   pub gives_none : EncRequestValue → ManagerError → Type 0
   pub size : ℕ
 
 -- the sealing of a manager that may say this at a moment
-abbrev pub resealing_of : Asked → Saying → ℕ → ℕ → Resealing
+abbrev pub resealing_of : DecryptAsked → Saying → ℕ → ℕ → Resealing
 resealing_of opening saying now size = record {
   opening = opening;
   wraps = saying.wraps;
@@ -73,7 +73,7 @@ pub record HasMaterials (asked : Resealing) (drawn : List ℕ) (whole only : Lis
 
 -- The output gained the header of a message with such materials, and all frames of the text but the
 -- last.
-pub record WritesFront (asked : Resealing) (drawn : List ℕ) (whole only : List KeyValue)
+pub record ResealWritesFront (asked : Resealing) (drawn : List ℕ) (whole only : List KeyValue)
     (text : List ℕ) (output put : SinkState) : Type 0 where
   pub materials : EncMaterialsValue
   pub has : HasMaterials asked drawn whole only materials
@@ -93,12 +93,15 @@ written_of m size drawn j = written_at m size drawn (content j) j.unlocked
 -- where the old message is unlocked, that; where it isn't, nothing
 abbrev pub WritesBy : Resealing → List ℕ → Unlocking → List ℕ → Bool → SinkState → SinkState
     → Type 0
-WritesBy asked drawn (Unlocks whole only key) text true output put = WritesFront asked drawn whole
+WritesBy asked drawn (Unlocks whole only key) text true output put =
+    ResealWritesFront asked drawn whole
     only text output put
 WritesBy asked drawn answer text unlocked output put = Appends output.written put.written []
 
-abbrev pub Writes : Resealing → List ℕ → Unlocking → Judged → SinkState → SinkState → Type 0
-Writes asked drawn answer j output put = WritesBy asked drawn answer (content j) j.unlocked output
+abbrev pub WritesNewMessage : Resealing → List ℕ → Unlocking → Judged → SinkState → SinkState
+    → Type 0
+WritesNewMessage asked drawn answer j output put =
+    WritesBy asked drawn answer (content j) j.unlocked output
     put
 
 -- These bytes were taken, the manager answered so to their header, and the output gained what is
@@ -108,7 +111,8 @@ pub record Passes (asked : Resealing) (drawn : List ℕ) (input taken : SourceSt
   pub came : Came input taken bytes
   pub answered : AnswersTo asked.opening.manager asked.opening.settings asked.opening.given bytes
       answer
-  pub written : Writes asked drawn answer (judged bytes asked.opening.settings answer) output put
+  pub written : WritesNewMessage asked drawn answer (judged bytes asked.opening.settings answer)
+      output put
 
 -- ---- the whole input
 
@@ -137,7 +141,7 @@ pub record Reseals (asked : Resealing) (drawn : List ℕ) (input taken : SourceS
 -- The bytes taken have this fault, or the whole input was taken and has it; those before the last
 -- piece have none. What they release before it was passed on, and the new message isn't whole. No
 -- read failed.
-pub record HasFault (asked : Resealing) (drawn : List ℕ) (input taken : SourceState)
+pub record ResealFindsFault (asked : Resealing) (drawn : List ℕ) (input taken : SourceState)
     (output put : SinkState) (fault : Fault) : Type 0 where
   pub bytes : List ℕ
   pub answer : Unlocking
@@ -150,7 +154,7 @@ pub record HasFault (asked : Resealing) (drawn : List ℕ) (input taken : Source
       (λ before. fault_of (judged before asked.opening.settings answer).verdict ≡ None) bytes
 
 -- The bytes taken have no fault, and a read failed.
-pub record SourceFails (asked : Resealing) (drawn : List ℕ) (input taken : SourceState)
+pub record ResealSourceFails (asked : Resealing) (drawn : List ℕ) (input taken : SourceState)
     (output put : SinkState) : Type 0 where
   pub bytes : List ℕ
   pub answer : Unlocking
@@ -159,7 +163,7 @@ pub record SourceFails (asked : Resealing) (drawn : List ℕ) (input taken : Sou
   pub rose : Rose input.faults taken.faults
 
 -- 2^62 bytes were taken, and have no fault.
-pub record IsTooLong (asked : Resealing) (drawn : List ℕ) (input taken : SourceState)
+pub record ResealInputIsTooLong (asked : Resealing) (drawn : List ℕ) (input taken : SourceState)
     (output put : SinkState) : Type 0 where
   pub bytes : List ℕ
   pub answer : Unlocking
@@ -205,7 +209,7 @@ pub record RefusesMessage (asked : Resealing) (drawn : List ℕ) (input taken : 
 
 -- The text released has a byte beyond those that have room in a message, and it came with the last
 -- piece. What is written of those that have was written, all frames but the last. No read failed.
-pub record HasTooMany (asked : Resealing) (drawn : List ℕ) (input taken : SourceState)
+pub record ResealNeedsTooManyFrames (asked : Resealing) (drawn : List ℕ) (input taken : SourceState)
     (output put : SinkState) : Type 0 where
   pub first : List ℕ
   pub whole : List KeyValue
@@ -263,7 +267,7 @@ pub record FrontFails (asked : Resealing) (drawn : List ℕ) (input taken : Sour
 
 -- The write of the final frame failed: the whole input was taken and is a whole message, all of the
 -- new one but that frame was written, and a front of it.
-pub record FinalFails (asked : Resealing) (drawn : List ℕ) (input taken : SourceState)
+pub record ResealFinalFails (asked : Resealing) (drawn : List ℕ) (input taken : SourceState)
     (output put : SinkState) : Type 0 where
   pub bytes : List ℕ
   pub whole : List KeyValue
@@ -291,50 +295,56 @@ pub record WritesFirst (asked : Resealing) (drawn : List ℕ) (input taken : Sou
   pub only : List KeyValue
   pub key : List ℕ
   pub opens : OpensFirst asked input taken first whole only key
-  pub front : WritesFront asked drawn whole only
+  pub front : ResealWritesFront asked drawn whole only
       (content (judged first asked.opening.settings (Unlocks whole only key))) output put
 
 -- Memory ran out at the last piece, as it may while a message is opened. Nothing was written, or
 -- what was passed on before.
-pub record HasNoMemory (asked : Resealing) (drawn : List ℕ) (input taken : SourceState)
+pub record ResealLacksMemory (asked : Resealing) (drawn : List ℕ) (input taken : SourceState)
     (output put : SinkState) : Type 0 where
   pub lacks : LacksMemory asked.opening input taken
   pub written : SinkTakes output put [] ⊎ WritesFirst asked drawn input taken output put
 
 -- why a run ended whose random bytes were drawn, and what it left
-abbrev pub EndsSo : Resealing → List ℕ → SourceState → SourceState → SinkState → SinkState
+abbrev pub ResealEndsSo : Resealing → List ℕ → SourceState → SourceState → SinkState → SinkState
     → InputError → Type 0
-EndsSo asked drawn input taken output put (errors.Fault fault) = HasFault asked drawn input taken
+ResealEndsSo asked drawn input taken output put (errors.Fault fault) =
+    ResealFindsFault asked drawn input taken
     output put fault
-EndsSo asked drawn input taken output put (errors.Refusal refusal) =
+ResealEndsSo asked drawn input taken output put (errors.Refusal refusal) =
     RefusesMessage asked drawn input taken output put refusal
-    ⊎ ((refusal ≡ TooManyFrames) × HasTooMany asked drawn input taken output put)
-EndsSo asked drawn input taken output put (errors.Outside outsides.SourceFault) = SourceFails asked
+    ⊎ ((refusal ≡ TooManyFrames) × ResealNeedsTooManyFrames asked drawn input taken output put)
+ResealEndsSo asked drawn input taken output put (errors.Outside outsides.SourceFault) =
+    ResealSourceFails asked
     drawn input taken output put
-EndsSo asked drawn input taken output put (errors.Outside outsides.SinkFault) =
+ResealEndsSo asked drawn input taken output put (errors.Outside outsides.SinkFault) =
     Rose output.faults put.faults
     × (FrontFails asked drawn input taken output put
-    ⊎ FinalFails asked drawn input taken output put)
-EndsSo asked drawn input taken output put (errors.Outside outsides.KeyringFault) =
-    (ManagerFails asked.opening input taken × SinkTakes output put [])
+    ⊎ ResealFinalFails asked drawn input taken output put)
+ResealEndsSo asked drawn input taken output put (errors.Outside outsides.KeyringFault) =
+    (DecryptManagerFails asked.opening input taken × SinkTakes output put [])
     ⊎ SealingFails asked input taken output put
-EndsSo asked drawn input taken output put (errors.Outside outsides.InputTooLong) = IsTooLong asked
+ResealEndsSo asked drawn input taken output put (errors.Outside outsides.InputTooLong) =
+    ResealInputIsTooLong asked
     drawn input taken output put
-EndsSo asked drawn input taken output put (errors.Outside outside) = ⊥
-EndsSo asked drawn input taken output put errors.Memory = HasNoMemory asked drawn input taken output
+ResealEndsSo asked drawn input taken output put (errors.Outside outside) = ⊥
+ResealEndsSo asked drawn input taken output put errors.Memory =
+    ResealLacksMemory asked drawn input taken output
     put
 
 -- ---- the whole run
 
 -- Just these bytes were drawn, and this is so of them.
-pub record Draws (wraps : ℕ) (entropy spent : EntropyState) (so : List ℕ → Type 0) : Type 0 where
+pub record DrawsJust (wraps : ℕ) (entropy spent : EntropyState) (so : List ℕ → Type 0)
+    : Type 0 where
   pub drawn : List ℕ
   pub drew : Drew wraps entropy spent drawn
   pub is : so drawn
 
 abbrev pub ResealsInput : Resealing → SourceState → SourceState → SinkState → SinkState
     → EntropyState → EntropyState → List KeyValue → Type 0
-ResealsInput asked input taken output put entropy spent context = Draws asked.wraps entropy spent
+ResealsInput asked input taken output put entropy spent context =
+    DrawsJust asked.wraps entropy spent
     (λ drawn. Reseals asked drawn input taken output put context)
 
 -- why an input wasn't resealed; `untouched` says that the input and the output are as before,
@@ -343,5 +353,6 @@ abbrev pub ResealEnds : Resealing → SourceState → SourceState → SinkState 
     → EntropyState → Type 0 → Type 0 → InputError → Type 0
 ResealEnds asked input taken output put entropy spent untouched unasked
     (errors.Outside outsides.EntropyFault) = EntropyFails entropy spent untouched unasked
-ResealEnds asked input taken output put entropy spent untouched unasked error = Draws asked.wraps
-    entropy spent (λ drawn. EndsSo asked drawn input taken output put error)
+ResealEnds asked input taken output put entropy spent untouched unasked error =
+    DrawsJust asked.wraps
+    entropy spent (λ drawn. ResealEndsSo asked drawn input taken output put error)

@@ -8,7 +8,8 @@ use Rattle.keyring_trait.specs.Requests.{AllHeld}
 use Rattle.keyring_trait.specs.Unlocking.{Unlocking, Refuses, Unlocks}
 use Rattle.message_format.specs.Judgement.{content}
 use Rattle.stream_open.specs.Session.{OpeningValue, judged_now}
-use Rattle.stream_open.specs.Session.{new_session as new_opening, finished as finished_opening}
+use Rattle.stream_open.specs.Session.{new_opening_session as new_opening}
+use Rattle.stream_open.specs.Session.{opening_finished as finished_opening}
 use Rattle.reseal_core.specs.Front.{front_of}
 
 -- The session of the old message's opener; the frame length of the new message, the random bytes
@@ -22,8 +23,8 @@ pub record ResealingValue : Type 0 where
   pub stopped : Bool
 
 -- nothing is taken yet
-abbrev pub new_session : Settings → List KeyValue → ℕ → List ℕ → ResealingValue
-new_session settings given size random =
+abbrev pub new_resealing_session : Settings → List KeyValue → ℕ → List ℕ → ResealingValue
+new_resealing_session settings given size random =
     record {
       opening = new_opening settings given;
       size = size;
@@ -41,7 +42,7 @@ abbrev pub front : ResealingValue → List ℕ
 front v = front_of v.materials v.size v.random (text_so_far v)
 
 -- it goes on, and the old message isn't unlocked yet
-pub record IsLocked (v : ResealingValue) : Type 0 where
+pub record IsStillLocked (v : ResealingValue) : Type 0 where
   pub going : v.stopped ≡ false
   pub none : v.materials ≡ None
 
@@ -54,8 +55,8 @@ abbrev pub stopped_at : ResealingValue → OpeningValue → ResealingValue
 stopped_at v opening = record v { opening = opening; stopped = true }
 
 -- nothing may follow
-abbrev pub finished : ResealingValue → ResealingValue
-finished v = stopped_at v (finished_opening v.opening)
+abbrev pub resealing_finished : ResealingValue → ResealingValue
+resealing_finished v = stopped_at v (finished_opening v.opening)
 
 -- the pairs that are only authenticated are pairs of the whole context
 abbrev pub HoldsOnly : Option Unlocking → Type 0

@@ -11,23 +11,24 @@ use Rattle.body_format.specs.declared.verdicts.Verdict.TheVariants.{Whole}
 use Rattle.message_format.specs.Judgement.{content}
 use Rattle.stream_open.specs.declared.errors.OpenError.{OpenError}
 use Rattle.stream_open.specs.declared.errors.OpenError.TheVariants as opens
-use Rattle.stream_open.specs.Session.{OpeningValue, finish_answer, judged_now, stepped}
-use Rattle.stream_open.specs.Stands.{Stands as Opens, Steps as StepsOpener}
+use Rattle.stream_open.specs.Session.{OpeningValue, opening_finish_answer, judged_now}
+use Rattle.stream_open.specs.Session.{opening_stepped}
+use Rattle.stream_open.specs.Stands.{Stands as Opens, OpenerSteps as StepsOpener}
 use Rattle.esdk_encrypt.specs.Asking.{BearsAsMany, BearsOneMore}
 use Rattle.reseal_core.specs.declared.errors.ResealError.{ResealError}
 use Rattle.reseal_core.specs.declared.errors.ResealError.TheVariants as errors
 use Rattle.reseal_core.specs.declared.new_message.NewMessage.{NewMessage}
 use Rattle.reseal_core.specs.declared.resealer.Resealer.{Resealer}
-use Rattle.reseal_core.specs.Errors.{opened_as}
-use Rattle.reseal_core.specs.Front.{Gains, front_of}
-use Rattle.reseal_core.specs.NewMessage.{AreGiven, FinishesAs, GoesNotOn, HeaderFails}
+use Rattle.reseal_core.specs.Errors.{open_error_as}
+use Rattle.reseal_core.specs.Front.{GainsBeyond, front_of}
+use Rattle.reseal_core.specs.NewMessage.{MaterialsAreGiven, FinishesAs, GoesNotOn, NewHeaderFails}
 use Rattle.reseal_core.specs.NewMessage.{IsNotBegun, IsWritten}
 use Rattle.reseal_core.specs.Session.{HoldsOnly, ResealingValue, front, gone_on}
 use Rattle.reseal_core.specs.Session.{stopped_at, text_so_far}
 
 -- The session goes on: so does the opener's, and the new message is begun exactly where the old one
 -- is unlocked, and has the text that was released.
-pub record IsGoing (resealer : Resealer) (v : ResealingValue) : Type 0 where
+pub record ResealerIsGoing (resealer : Resealer) (v : ResealingValue) : Type 0 where
   pub on : v.opening.stopped ≡ false
   pub written : IsWritten resealer.message v.size v.random v.materials (text_so_far v)
   pub unlocked : is_some v.materials ≡ (judged_now v.opening).unlocked
@@ -37,10 +38,10 @@ pub record IsGoing (resealer : Resealer) (v : ResealingValue) : Type 0 where
 pub record Stands (resealer : Resealer) (v : ResealingValue) : Type 0 where
   pub opener : Opens resealer.opener v.opening
   pub stopped : resealer.stopped ≡ v.stopped
-  pub going : v.stopped ≡ false → IsGoing resealer v
+  pub going : v.stopped ≡ false → ResealerIsGoing resealer v
 
 -- It stands for a session, as every resealer does.
-pub record HasSession (resealer : Resealer) : Type 0 where
+pub record ResealerHasSession (resealer : Resealer) : Type 0 where
   pub session : ResealingValue
   pub stands : Stands resealer session
 
@@ -48,7 +49,7 @@ pub record HasSession (resealer : Resealer) : Type 0 where
 
 -- The old message is unlocked at this point, with this whole context and these pairs that are only
 -- authenticated.
-pub record IsOpen (opening : OpeningValue) (whole only : List KeyValue) : Type 0 where
+pub record OldMessageIsOpen (opening : OpeningValue) (whole only : List KeyValue) : Type 0 where
   pub key : List ℕ
   pub answer : opening.answer ≡ Some (Unlocks whole only key)
   pub unlocked : (judged_now opening).unlocked ≡ true
@@ -58,8 +59,8 @@ pub record AreGivenAt (saying : Saying) (now : ℕ) (random : List ℕ) (opening
     (m : EncMaterialsValue) : Type 0 where
   pub whole : List KeyValue
   pub only : List KeyValue
-  pub opened : IsOpen opening whole only
-  pub given : AreGiven saying now random whole only m
+  pub opened : OldMessageIsOpen opening whole only
+  pub given : MaterialsAreGiven saying now random whole only m
 
 -- The materials at this point of the old message: those that were there before, else those that the
 -- manager gave, once it is unlocked. `unasked` says that the manager is as before.
@@ -77,17 +78,18 @@ pub record BeginsWhereDue (m : Option EncMaterialsValue) (saying : Saying) (now 
   pub materials : Option EncMaterialsValue
   pub asks : AsksFor m saying now random opening unasked materials
   pub written : IsWritten message size random materials text
-  pub gained : Gains old new (front_of m size random text) (front_of materials size random text)
+  pub gained : GainsBeyond old new (front_of m size random text)
+      (front_of materials size random text)
 
 -- The old message was unlocked, and the new one isn't begun, or its header wasn't put whole.
-pub record BeginsNot (m : Option EncMaterialsValue) (saying : Saying) (now size : ℕ)
+pub record NewMessageBeginsNot (m : Option EncMaterialsValue) (saying : Saying) (now size : ℕ)
     (random : List ℕ) (opening : OpeningValue) (old new : SinkState) (unwritten : Type 0)
     (error : ResealError) : Type 0 where
   pub none : m ≡ None
   pub whole : List KeyValue
   pub only : List KeyValue
-  pub opened : IsOpen opening whole only
-  pub why : ((error ≡ errors.SinkFault) × HeaderFails saying now whole only size random old new)
+  pub opened : OldMessageIsOpen opening whole only
+  pub why : ((error ≡ errors.SinkFault) × NewHeaderFails saying now whole only size random old new)
       ⊎ (IsNotBegun saying now random whole only error × unwritten)
 
 -- ---- what the manager of the new message bears
@@ -115,12 +117,12 @@ BearsAfter old new now before after result =
 -- ---- a step
 
 -- The opener has come to this point, and what it released was passed on.
-pub record StepsOn (saying : Saying) (now : ℕ) (v : ResealingValue) (opening : OpeningValue)
+pub record ResealerStepsOn (saying : Saying) (now : ℕ) (v : ResealingValue) (opening : OpeningValue)
     (old new : SinkState) (unasked : Type 0) (resealer : Resealer) : Type 0 where
   pub materials : Option EncMaterialsValue
   pub asks : AsksFor v.materials saying now v.random opening unasked materials
   pub stands : Stands resealer (gone_on v opening materials)
-  pub gained : Gains old new (front v) (front (gone_on v opening materials))
+  pub gained : GainsBeyond old new (front v) (front (gone_on v opening materials))
 
 -- What was released wasn't passed on, or not all of it.
 pub record PassesNot (saying : Saying) (now : ℕ) (v : ResealingValue) (opening : OpeningValue)
@@ -134,17 +136,17 @@ pub record PassesNot (saying : Saying) (now : ℕ) (v : ResealingValue) (opening
 abbrev pub SealsAt : Saying → ℕ → ResealingValue → OpeningValue → ℕ → SinkState → SinkState → Type 0
     → Type 0 → Resealer → Result ℕ ResealError → Type 0
 SealsAt saying now v opening used old new unasked unwritten resealer (Ok n) = (n ≡ used)
-    × StepsOn saying now v opening old new unasked resealer
+    × ResealerStepsOn saying now v opening old new unasked resealer
 SealsAt saying now v opening used old new unasked unwritten resealer (Err error) =
     Stands resealer (stopped_at v opening)
-    × (BeginsNot v.materials saying now v.size v.random opening old new unwritten error
+    × (NewMessageBeginsNot v.materials saying now v.size v.random opening old new unwritten error
     ⊎ PassesNot saying now v opening old new unasked error)
 
 -- The opener failed: nothing was passed on.
-pub record OpensNot (v : ResealingValue) (opening : OpeningValue) (why : OpenError)
+pub record OpenerOpensNot (v : ResealingValue) (opening : OpeningValue) (why : OpenError)
     (unasked unwritten : Type 0) (result : Result ℕ ResealError) (resealer : Resealer) : Type 0
   where
-    pub named : result ≡ Err (opened_as why)
+    pub named : result ≡ Err (open_error_as why)
     pub manager : unasked
     pub output : unwritten
     pub stands : Stands resealer (stopped_at v opening)
@@ -153,29 +155,32 @@ abbrev pub SealsAfter : Saying → ℕ → ResealingValue → OpeningValue → R
     → SinkState → Type 0 → Type 0 → Result ℕ ResealError → Resealer → Type 0
 SealsAfter saying now v opening (Ok used) old new unasked unwritten result resealer = SealsAt saying
     now v opening used old new unasked unwritten resealer result
-SealsAfter saying now v opening (Err why) old new unasked unwritten result resealer = OpensNot v
+SealsAfter saying now v opening (Err why) old new unasked unwritten result resealer =
+    OpenerOpensNot v
     opening why unasked unwritten result resealer
 
 -- A step of a session that goes on: the opener makes one, and what it released is passed on.
 -- `opened` and `opening` are what the manager of the old message was and is, `saying` what that of
 -- the new one may have said.
-pub record Steps (opened opening : ManagerNow) (saying : Saying) (now : ℕ) (v : ResealingValue)
+pub record ResealerSteps (opened opening : ManagerNow) (saying : Saying) (now : ℕ)
+    (v : ResealingValue)
     (piece : List ℕ) (old new : SinkState) (unasked unwritten : Type 0)
     (result : Result ℕ ResealError) (resealer : Resealer) : Type 0 where
   pub answer : Result ℕ OpenError
   pub opens : StepsOpener opened opening now v.opening piece answer resealer.opener
-  pub seals : SealsAfter saying now v (stepped v.opening piece opens.heard answer) answer old new
+  pub seals : SealsAfter saying now v (opening_stepped v.opening piece opens.heard answer) answer
+      old new
       unasked unwritten result resealer
 
 -- ---- the end
 
 -- what finishing a session that goes on comes to: of a whole message the new one is put to its end;
 -- nothing is put behind any other
-abbrev pub Finishes : ResealingValue → SinkState → SinkState → Type 0
+abbrev pub ResealerFinishes : ResealingValue → SinkState → SinkState → Type 0
     → Result (Unit {0}) ResealError → Type 0
-Finishes v old new unwritten (Err (errors.Fault fault)) =
-    (finish_answer v.opening ≡ Err (opens.Fault fault)) × unwritten
-Finishes v old new unwritten result =
+ResealerFinishes v old new unwritten (Err (errors.Fault fault)) =
+    (opening_finish_answer v.opening ≡ Err (opens.Fault fault)) × unwritten
+ResealerFinishes v old new unwritten result =
     ((judged_now v.opening).verdict ≡ Whole)
     × ((m : EncMaterialsValue) × (v.materials ≡ Some m)
     × FinishesAs m v.size v.random (text_so_far v) old new result)

@@ -6,7 +6,7 @@ use Rattle.std.specs.Prelude.{ℕ, List, length, None}
 use Rattle.keyring_trait.specs.Manager.{ManagerMeaning}
 use Rattle.keyring_trait.specs.Wrapping.{WrapKeyValue, active}
 use Rattle.esdk_encrypt.specs.Told.{asked_told as encryption_told}
-use Rattle.esdk_decrypt.specs.Told.{Reader, asked_by}
+use Rattle.esdk_decrypt.specs.Told.{Reader, decrypting_by}
 use Rattle.reseal_core.specs.Reseal.{Resealing}
 
 -- what this reader opens is sealed by a manager that meant this before and that after it, and tells
@@ -14,7 +14,7 @@ use Rattle.reseal_core.specs.Reseal.{Resealing}
 abbrev pub resealing_told : Reader → List WrapKeyValue → ManagerMeaning → ManagerMeaning → ℕ
     → Resealing
 resealing_told reader keys old new size = record {
-  opening = asked_by reader;
+  opening = decrypting_by reader;
   wraps = length (active keys);
   gives = λ request random materials. (encryption_told keys old new request size None).gives random
       materials;

@@ -19,25 +19,25 @@ use Rattle.whole_input.specs.declared.pieces.End.TheVariants as ends
 use Rattle.whole_input.specs.Pieces.{NextPiece, PiecesValue}
 use Rattle.whole_input.specs.Taken.{Came}
 use Rattle.esdk_decrypt.specs.Decrypt.{HasContext, fault_at_end}
-use Rattle.esdk_decrypt.specs.Underway.{InputEnds}
+use Rattle.esdk_decrypt.specs.Underway.{NoMoreCame}
 use Rattle.reseal_core.specs.declared.errors.InputError.{InputError}
 use Rattle.reseal_core.specs.declared.errors.InputError.TheVariants as errors
 use Rattle.reseal_core.specs.declared.errors.ResealError.{ResealError}
 use Rattle.reseal_core.specs.declared.errors.ResealError.TheVariants as reseals
 use Rattle.reseal_core.specs.declared.resealer.Resealer.{Resealer}
-use Rattle.reseal_core.specs.Front.{Gains, front_of}
-use Rattle.reseal_core.specs.NewMessage.{AreGiven, FinishesAs}
-use Rattle.reseal_core.specs.Session.{ResealingValue, gone_on, new_session, text_so_far}
+use Rattle.reseal_core.specs.Front.{GainsBeyond, front_of}
+use Rattle.reseal_core.specs.NewMessage.{MaterialsAreGiven, FinishesAs}
+use Rattle.reseal_core.specs.Session.{ResealingValue, gone_on, new_resealing_session, text_so_far}
 use Rattle.reseal_core.specs.Stands.{Stands}
 
 -- what a resealer's error is called; one that goes on isn't stopped
-abbrev pub IsCalled : ResealError → InputError → Type 0
-IsCalled (reseals.Fault fault) error = error ≡ errors.Fault fault
-IsCalled (reseals.Refusal refusal) error = error ≡ errors.Refusal refusal
-IsCalled reseals.KeyringFault error = error ≡ errors.Outside outsides.KeyringFault
-IsCalled reseals.SinkFault error = error ≡ errors.Outside outsides.SinkFault
-IsCalled reseals.Stopped error = ⊥
-IsCalled reseals.Memory error = error ≡ errors.Memory
+abbrev pub ResealErrorIsCalled : ResealError → InputError → Type 0
+ResealErrorIsCalled (reseals.Fault fault) error = error ≡ errors.Fault fault
+ResealErrorIsCalled (reseals.Refusal refusal) error = error ≡ errors.Refusal refusal
+ResealErrorIsCalled reseals.KeyringFault error = error ≡ errors.Outside outsides.KeyringFault
+ResealErrorIsCalled reseals.SinkFault error = error ≡ errors.Outside outsides.SinkFault
+ResealErrorIsCalled reseals.Stopped error = ⊥
+ResealErrorIsCalled reseals.Memory error = error ≡ errors.Memory
 
 -- ---- the resealer
 
@@ -48,12 +48,12 @@ pub record IsUnstopped (resealer : Resealer) : Type 0 where
   pub going : session.stopped ≡ false
 
 -- It has taken nothing, and its random bytes are enough for so many wraps.
-pub record Begins (wraps : ℕ) (resealer : Resealer) : Type 0 where
+pub record ResealerIsNew (wraps : ℕ) (resealer : Resealer) : Type 0 where
   pub settings : Settings
   pub given : List KeyValue
   pub size : ℕ
   pub random : List ℕ
-  pub stands : Stands resealer (new_session settings given size random)
+  pub stands : Stands resealer (new_resealing_session settings given size random)
   pub count : length random ≡ 64 + 12 * wraps
 
 -- The answer that is kept unlocks the old message, and the manager gave these materials for it.
@@ -63,7 +63,7 @@ pub record AreMade (saying : Saying) (now : ℕ) (random : List ℕ) (answer : O
   pub only : List KeyValue
   pub key : List ℕ
   pub answer_is : answer ≡ Some (Unlocks whole only key)
-  pub given : AreGiven saying now random whole only m
+  pub given : MaterialsAreGiven saying now random whole only m
 
 -- these materials were given for the answer that is kept; or there are none yet, and the manager
 -- wasn't asked
@@ -83,7 +83,7 @@ pub record Reached {A B : Type 0} (opened : A → ManagerNow) (sealed : B → Ma
   pub stands : Stands resealer (gone_on v fed.session materials)
   pub made : IsMade (said_last (sealed before) (sealed after)) now v.random fed.session.answer
       (after ≡ before) materials
-  pub gained : Gains output put []
+  pub gained : GainsBeyond output put []
       (front_of materials v.size v.random (content (judged_now fed.session)))
 
 -- ---- the input
@@ -107,7 +107,7 @@ pub record IsFedInput {A B : Type 0} (opened : A → ManagerNow) (sealed : B →
     (output put : SinkState) (end : End) (resealer : Resealer) : Type 0 where
   pub bytes : List ℕ
   pub came : Came input taken bytes
-  pub ends : InputEnds input taken bytes end
+  pub ends : NoMoreCame input taken bytes end
   pub reached : Reached opened sealed now v bytes old new before after output put resealer
 
 -- the new message was finished, or its final frame wasn't put, or not all of it
@@ -120,21 +120,21 @@ ConcludesSo v old new result =
 
 -- the session's bytes are a whole message, which was unlocked with this whole context, and the new
 -- one was finished; or they have this fault; or the output failed
-abbrev pub ConcludesWhole : ResealingValue → SinkState → SinkState
+abbrev pub ConcludesNewMessage : ResealingValue → SinkState → SinkState
     → Result (List KeyValue) InputError → Type 0
-ConcludesWhole v old new (Ok context) = ConcludesSo v old new (Ok tt)
+ConcludesNewMessage v old new (Ok context) = ConcludesSo v old new (Ok tt)
     × HasContext (answer_kept v.opening.answer) context
-ConcludesWhole v old new (Err (errors.Fault fault)) =
+ConcludesNewMessage v old new (Err (errors.Fault fault)) =
     (fault_at_end (judged_now v.opening).verdict ≡ Some fault) × (new ≡ old)
-ConcludesWhole v old new (Err (errors.Outside outsides.SinkFault)) = ConcludesSo v old new
+ConcludesNewMessage v old new (Err (errors.Outside outsides.SinkFault)) = ConcludesSo v old new
     (Err reseals.SinkFault)
-ConcludesWhole v old new (Err error) = ⊥
+ConcludesNewMessage v old new (Err error) = ⊥
 
 -- how a run ends whose session took all bytes that came
-abbrev pub Concludes : ResealingValue → SinkState → SinkState → End
+abbrev pub ConcludesResealing : ResealingValue → SinkState → SinkState → End
     → Result (List KeyValue) InputError → Type 0
-Concludes v old new ends.Seen result = ConcludesWhole v old new result
-Concludes v old new ends.Failed (Err (errors.Outside outsides.SourceFault)) = new ≡ old
-Concludes v old new ends.Failed result = ⊥
-Concludes v old new ends.TooLong (Err (errors.Outside outsides.InputTooLong)) = new ≡ old
-Concludes v old new ends.TooLong result = ⊥
+ConcludesResealing v old new ends.Seen result = ConcludesNewMessage v old new result
+ConcludesResealing v old new ends.Failed (Err (errors.Outside outsides.SourceFault)) = new ≡ old
+ConcludesResealing v old new ends.Failed result = ⊥
+ConcludesResealing v old new ends.TooLong (Err (errors.Outside outsides.InputTooLong)) = new ≡ old
+ConcludesResealing v old new ends.TooLong result = ⊥

@@ -3,7 +3,7 @@
 ghost use Rattle.std.specs.Prelude.{◌≡◌};
 ghost use Rattle.reseal_core.specs.declared.errors.InputError.TheVariants as inputs;
 ghost use Rattle.reseal_core.specs.declared.errors.ResealError.TheVariants as reseals;
-ghost use Rattle.reseal_core.specs.Errors.{given_as, opened_as};
+ghost use Rattle.reseal_core.specs.Errors.{given_as, open_error_as};
 
 use esdk_fields::{Fault, Outside, Refusal};
 use keyring_trait::ManagerError;
@@ -59,7 +59,7 @@ impl Error for ResealError {}
 
 /// What an opener's error is called here.
 pub(crate) fn opened_as(error: OpenError) -> ResealError
-    ensures { result ≡ opened_as error }
+    ensures { result ≡ open_error_as error }
 {
     match error {
         OpenError::Fault(fault) => ResealError::Fault(fault),

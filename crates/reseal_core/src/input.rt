@@ -12,11 +12,12 @@ ghost use Rattle.esdk_encrypt.specs.Asking.{BearsAtMostOne};
 ghost use Rattle.esdk_decrypt.specs.Underway.{BearsOnce, IsUnasked};
 ghost use Rattle.reseal_core.specs.declared.errors.InputError.TheVariants.{Memory};
 ghost use Rattle.reseal_core.specs.declared.errors.ResealError.TheVariants.{Stopped};
-ghost use Rattle.reseal_core.specs.Reseal.{EndsSo, ResealEnds, ResealsInput, resealing_from};
-ghost use Rattle.reseal_core.specs.Session.{ResealingValue, new_session};
+ghost use Rattle.reseal_core.specs.Reseal.{ResealEndsSo, ResealEnds, ResealsInput, resealing_from};
+ghost use Rattle.reseal_core.specs.Session.{ResealingValue, new_resealing_session};
 ghost use Rattle.reseal_core.specs.Stands.{BearsAfter, Stands};
 ghost use Rattle.reseal_core.specs.Told.{resealing_told};
-ghost use Rattle.reseal_core.specs.Underway.{Begins, Concludes, ConcludesWhole, IsCalled};
+ghost use Rattle.reseal_core.specs.Underway.{ResealerIsNew, ConcludesResealing};
+ghost use Rattle.reseal_core.specs.Underway.{ConcludesNewMessage, ResealErrorIsCalled};
 ghost use Rattle.reseal_core.specs.Underway.{IsFedInput, IsUnstopped, UnfedAs};
 
 use crate::errors::{InputError, ResealError};
@@ -169,7 +170,7 @@ fn resealer_for(
 ) -> Result<Resealer, InputError>
     requires wide { 1 ≤ options.frame_length }
     ensures stands { IfOk result (λ resealer. Stands resealer
-        (new_session options.settings given.now options.frame_length random.now)) }
+        (new_resealing_session options.settings given.now options.frame_length random.now)) }
     ensures cause { IfErr result (λ error. error ≡ Memory) }
 {
     let given = given.copy(alloc)?;
@@ -191,16 +192,16 @@ fn feed_input<A: Manager, B: Manager, S: Source, O: Sink>(
 ) -> Result<End, InputError>
     requires opening { Went (A.state opening.old) (A.state opening.old) }
     requires sealing { Went (B.state sealing.old) (B.state sealing.old) }
-    requires begins { Begins (B.state sealing.old).meaning.wraps resealer.old }
+    requires begins { ResealerIsNew (B.state sealing.old).meaning.wraps resealer.old }
     ensures fed { (settings : Settings) (given : List KeyValue) (size : ℕ) (random : List ℕ)
-        → Stands resealer.old (new_session settings given size random)
+        → Stands resealer.old (new_resealing_session settings given size random)
         → IfOk result (λ end. IsFedInput A.state B.state now
-        (new_session settings given size random) (S.state input.old) (S.state input.new)
+        (new_resealing_session settings given size random) (S.state input.old) (S.state input.new)
         opening.old opening.new sealing.old sealing.new (O.state output.old)
         (O.state output.new) end resealer.new) }
     ensures ends { (settings : Settings) (given : List KeyValue) (size : ℕ) (random : List ℕ)
-        → Stands resealer.old (new_session settings given size random)
-        → IfErr result (EndsSo (resealing_from (A.state opening.old) (A.state opening.new)
+        → Stands resealer.old (new_resealing_session settings given size random)
+        → IfErr result (ResealEndsSo (resealing_from (A.state opening.old) (A.state opening.new)
         (B.state sealing.old) (B.state sealing.new) now settings given size) random
         (S.state input.old) (S.state input.new) (O.state output.old) (O.state output.new)) }
     ensures going { IfOk result (λ _. IsUnstopped resealer.new) }
@@ -210,7 +211,7 @@ fn feed_input<A: Manager, B: Manager, S: Source, O: Sink>(
     ensures seals { BearsAfter (B.state sealing.old) (B.state sealing.new) now false
         (is_some resealer.new.message.sealer) result }
     ensures unasked { (settings : Settings) (given : List KeyValue) (size : ℕ) (random : List ℕ)
-        → Stands resealer.old (new_session settings given size random)
+        → Stands resealer.old (new_resealing_session settings given size random)
         → IsUnasked settings (S.state input.old) (S.state input.new)
         ((opening.new ≡ opening.old) × (sealing.new ≡ sealing.old)) }
     ensures taken { (S.state input.new).given ≤ (S.state input.old).given + 2 ^ 62 }
@@ -249,7 +250,7 @@ fn unfed<S: Source>(pieces: &mut Pieces, fed: usize, input: &mut S) -> Result<us
 /// What a resealer's error is called here.
 fn named(error: ResealError) -> InputError
     requires { error ≢ Stopped }
-    ensures { IsCalled error result }
+    ensures { ResealErrorIsCalled error result }
 {
     match error {
         ResealError::Fault(fault) => InputError::Fault(fault),
@@ -265,7 +266,7 @@ fn named(error: ResealError) -> InputError
 fn conclude<O: Sink>(resealer: Resealer, end: End, output: &mut O) -> Result<Context, InputError>
     requires { IsUnstopped resealer }
     ensures { (v : ResealingValue) → Stands resealer v → v.stopped ≡ false
-        → Concludes v (O.state output.old) (O.state output.new) end result }
+        → ConcludesResealing v (O.state output.old) (O.state output.new) end result }
 {
     match end {
         End::Seen => finish_whole(resealer, output),
@@ -278,7 +279,7 @@ fn conclude<O: Sink>(resealer: Resealer, end: End, output: &mut O) -> Result<Con
 fn finish_whole<O: Sink>(resealer: Resealer, output: &mut O) -> Result<Context, InputError>
     requires { IsUnstopped resealer }
     ensures { (v : ResealingValue) → Stands resealer v → v.stopped ≡ false
-        → ConcludesWhole v (O.state output.old) (O.state output.new) result }
+        → ConcludesNewMessage v (O.state output.old) (O.state output.new) result }
 {
     let mut resealer = resealer;
     if let Err(error) = resealer.finish(output) {

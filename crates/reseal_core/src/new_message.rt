@@ -8,12 +8,12 @@ ghost use Rattle.keyring_trait.specs.Materials.{EncMaterialsValue};
 ghost use Rattle.keyring_trait.specs.Requests.{AllHeld};
 ghost use Rattle.keyring_trait.specs.Saying.{said_last};
 ghost use Rattle.stream_seal.specs.Stands.{Stands};
-ghost use Rattle.stream_seal.specs.Start.{start_refusal};
-ghost use Rattle.esdk_encrypt.specs.Encrypt.{drawn_id};
-ghost use Rattle.esdk_encrypt.specs.Writing.{session_of};
+ghost use Rattle.stream_seal.specs.Start.{start_refusal, drawn_id};
+ghost use Rattle.esdk_encrypt.specs.Writing.{sealing_of_text};
 ghost use Rattle.reseal_core.specs.declared.errors.ResealError.TheVariants.{Memory};
 ghost use Rattle.reseal_core.specs.Front.{AreSound, request_for};
-ghost use Rattle.reseal_core.specs.NewMessage.{BeginsAs, FinishesAs, GivesAs, GoesOnAs};
+ghost use Rattle.reseal_core.specs.NewMessage.{NewMessageBeginsAs, FinishesAs, GivesAs};
+ghost use Rattle.reseal_core.specs.NewMessage.{NewMessageGoesOnAs};
 ghost use Rattle.reseal_core.specs.NewMessage.{IsRefused, IsWritten, put_as};
 ghost use Rattle.reseal_core.specs.Stands.{BearsAfter};
 
@@ -82,7 +82,8 @@ impl NewMessage {
         requires manager { Went (B.state sealing.old) (B.state sealing.old) }
         ensures begins { (size : ℕ) (random text : List ℕ)
             → IsWritten self.old size random None text
-            → BeginsAs (said_last (B.state sealing.old) (B.state sealing.new)) now whole.now
+            → NewMessageBeginsAs (said_last (B.state sealing.old) (B.state sealing.new)) now
+            whole.now
             only.now size random (O.state output.old) (O.state output.new)
             (output.new ≡ output.old) self.new result }
         ensures went { Went (B.state sealing.old) (B.state sealing.new) }
@@ -103,7 +104,7 @@ impl NewMessage {
         requires wide { 1 ≤ self.now.frame_length }
         requires long { 32 ≤ length self.now.random }
         ensures stands { IfOk result (λ sealer. Stands sealer
-            (session_of materials.now self.now.frame_length (drawn_id self.now.random) [])) }
+            (sealing_of_text materials.now self.now.frame_length (drawn_id self.now.random) [])) }
         ensures taken { OnOk result
             (start_refusal materials.now None (drawn_id self.now.random) ≡ None) }
         ensures cause { IfErr result
@@ -127,7 +128,7 @@ impl NewMessage {
     ) -> Result<(), ResealError>
         ensures goes { (size : ℕ) (random text : List ℕ) (m : Option EncMaterialsValue)
             → IsWritten self.old size random m text → (m ≡ None → content.now ≡ [])
-            → GoesOnAs size random m text (text ++ content.now) (O.state output.old)
+            → NewMessageGoesOnAs size random m text (text ++ content.now) (O.state output.old)
             (O.state output.new) self.new result }
         ensures begun { is_some self.new.sealer ≡ is_some self.old.sealer }
     {
@@ -206,7 +207,7 @@ fn started(
 ) -> Result<Sealer, ResealError>
     requires wide { 1 ≤ frame_length }
     ensures stands { IfOk result (λ sealer. Stands sealer
-        (session_of materials.now frame_length message_id.now [])) }
+        (sealing_of_text materials.now frame_length message_id.now [])) }
     ensures taken { OnOk result (start_refusal materials.now None message_id.now ≡ None) }
     ensures cause { IfErr result (IsRefused (start_refusal materials.now None message_id.now)) }
     ensures sound { AreSound materials.now }

@@ -10,11 +10,12 @@ ghost use Rattle.stream_open.specs.Session.{OpeningValue, asked_header, whole_co
 ghost use Rattle.stream_open.specs.Stands.{Stands as Opens};
 ghost use Rattle.reseal_core.specs.declared.errors.ResealError.TheVariants.{Stopped};
 ghost use Rattle.reseal_core.specs.NewMessage.{IsWritten};
-ghost use Rattle.reseal_core.specs.Session.{HoldsOnly, IsLocked, ResealingValue};
-ghost use Rattle.reseal_core.specs.Session.{finished, new_session};
+ghost use Rattle.reseal_core.specs.Session.{HoldsOnly, IsStillLocked, ResealingValue};
+ghost use Rattle.reseal_core.specs.Session.{resealing_finished, new_resealing_session};
 ghost use Rattle.reseal_core.specs.Stands.{BearsAfter, BearsMade, BearsUpTo};
-ghost use Rattle.reseal_core.specs.Stands.{BeginsNot, BeginsWhereDue, Finishes, HasSession};
-ghost use Rattle.reseal_core.specs.Stands.{Stands, Steps};
+ghost use Rattle.reseal_core.specs.Stands.{NewMessageBeginsNot, BeginsWhereDue, ResealerFinishes};
+ghost use Rattle.reseal_core.specs.Stands.{ResealerHasSession};
+ghost use Rattle.reseal_core.specs.Stands.{Stands, ResealerSteps};
 
 use crate::errors::{ResealError, opened_as};
 use crate::new_message::NewMessage;
@@ -51,7 +52,7 @@ impl Resealer {
     ) -> Result<Resealer, AllocError>
         requires wide { 1 ≤ frame_length }
         ensures { IfOk result (λ resealer. Stands resealer
-            (new_session settings given frame_length random.now)) }
+            (new_resealing_session settings given frame_length random.now)) }
     {
         let message = NewMessage::new(alloc, frame_length, random)?;
         Ok(Resealer {
@@ -94,11 +95,11 @@ impl Resealer {
         piece: &[u8],
         output: &mut O,
     ) -> Result<usize, ResealError>
-        requires session { HasSession self.old }
-        requires random { (v : ResealingValue) → Stands self.old v → IsLocked v
+        requires session { ResealerHasSession self.old }
+        requires random { (v : ResealingValue) → Stands self.old v → IsStillLocked v
             → length v.random ≡ 64 + 12 * (B.state sealing.old).meaning.wraps }
         ensures steps { (v : ResealingValue) → Stands self.old v → v.stopped ≡ false
-            → Steps (A.state opening.old) (A.state opening.new)
+            → ResealerSteps (A.state opening.old) (A.state opening.new)
             (said_last (B.state sealing.old) (B.state sealing.new)) now v piece.now
             (O.state output.old) (O.state output.new) (sealing.new ≡ sealing.old)
             (output.new ≡ output.old) result self.new }
@@ -157,7 +158,8 @@ impl Resealer {
         ensures cause { (opening : OpeningValue) (size : ℕ) (random text : List ℕ)
             (m : Option EncMaterialsValue) → Opens self.old.opener opening
             → IsWritten self.old.message size random m text
-            → IfErr result (BeginsNot m (said_last (B.state sealing.old) (B.state sealing.new)) now
+            → IfErr result (NewMessageBeginsNot m (said_last (B.state sealing.old)
+            (B.state sealing.new)) now
             size random opening (O.state output.old) (O.state output.new)
             (output.new ≡ output.old)) }
         ensures opener { self.new.opener ≡ self.old.opener }
@@ -185,12 +187,12 @@ impl Resealer {
     /// stopped.
     pub fn finish<O: Sink>(&mut self, output: &mut O) -> Result<(), ResealError>
         ensures finishes { (v : ResealingValue) → Stands self.old v → v.stopped ≡ false
-            → Finishes v (O.state output.old) (O.state output.new) (output.new ≡ output.old)
+            → ResealerFinishes v (O.state output.old) (O.state output.new) (output.new ≡ output.old)
             result }
         ensures stopped { (v : ResealingValue) → Stands self.old v → v.stopped ≡ true
             → (result ≡ Err Stopped) × (self.new ≡ self.old) × (output.new ≡ output.old) }
         ensures stands { (v : ResealingValue) → Stands self.old v → v.stopped ≡ false
-            → Stands self.new (finished v) }
+            → Stands self.new (resealing_finished v) }
     {
         if self.stopped {
             return Err(ResealError::Stopped);

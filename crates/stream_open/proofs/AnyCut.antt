@@ -9,7 +9,7 @@ use Rattle.esdk_fields.proofs.Fronts.{value_stays}
 use Rattle.context_codec.specs.Context.{KeyValue}
 use Rattle.header_codec.specs.declared.settings.Settings.{Settings}
 use Rattle.header_codec.specs.Header.{HeaderValue}
-use Rattle.header_codec.specs.Table.{Head, header, opening, head}
+use Rattle.header_codec.specs.Table.{HeaderFields, header, opening, head}
 use Rattle.header_codec.proofs.Order.{IsSequential-header}
 use Rattle.keyring_trait.specs.Unlocking.{Unlocking, Refuses, Unlocks}
 use Rattle.body_format.specs.declared.verdicts.Verdict.{Verdict}
@@ -20,23 +20,23 @@ use Rattle.message_format.proofs.Following.{SameAnswer, follows}
 use Rattle.stream_open.specs.declared.errors.OpenError.{OpenError}
 use Rattle.stream_open.specs.declared.errors.OpenError.TheVariants as errors
 use Rattle.stream_open.specs.Asking.{Heard, Nothing, Found, Named, Failed}
-use Rattle.stream_open.specs.Session.{OpeningValue, new_session, answer_kept, judged_now, header_asked, asked_header, keeping, is_faulty, reach, added, answer_at, answer_on, step_answer, stepped, finished}
-use Rattle.stream_open.specs.Laws.{Event, Step, Finish, MayBeHeard, Meets, MeetsAll, after_event, after_all, given_by, IsOpened}
+use Rattle.stream_open.specs.Session.{OpeningValue, new_opening_session, answer_kept, judged_now, header_asked, asked_header, keeping, is_faulty, reach, added_content, answer_at, answer_on, opening_step_answer, opening_stepped, opening_finished}
+use Rattle.stream_open.specs.Laws.{OpeningEvent, Step, Finish, MayBeHeard, Meets, MeetsAll, after_opening_event, after_opening_events, given_by_opening, IsOpenedSoFar}
 
 -- ---- which answer is looked at
 
-pub same_answer : (r : Reading Head) (a : Unlocking) → SameAnswer r a a
+pub same_answer : (r : Reading HeaderFields) (a : Unlocking) → SameAnswer r a a
 same_answer (Read parts p) a = refl
 same_answer (Refused fault at) a = tt
 same_answer Wanting a = tt
 
 -- while no header is whole, none is
-unread_answer : (r : Reading Head) (a later : Unlocking) → value_of r ≡ None → SameAnswer r a later
+unread_answer : (r : Reading HeaderFields) (a later : Unlocking) → value_of r ≡ None → SameAnswer r a later
 unread_answer (Read parts p) a later e = absurd cc
 unread_answer (Refused fault at) a later e = tt
 unread_answer Wanting a later e = tt
 
-same_by : (b : List ℕ) (settings : Settings) (a later : Unlocking) (r : Reading Head) → header settings (start b) ≡ r → SameAnswer r a later → judged b settings later ≡ judged b settings a
+same_by : (b : List ℕ) (settings : Settings) (a later : Unlocking) (r : Reading HeaderFields) → header settings (start b) ≡ r → SameAnswer r a later → judged b settings later ≡ judged b settings a
 same_by b settings a later (Read parts p) e same =
     judged_is b settings later (Read parts p) e ∙ ap (judged_header settings (header_of b parts) p) same ∙ sym (judged_is b settings a (Read parts p) e)
 same_by b settings a later (Refused fault at) e same = judged_is b settings later (Refused fault at) e ∙ sym (judged_is b settings a (Refused fault at) e)
@@ -72,18 +72,18 @@ adding before after more given is on =
     rw (is, on, behind_front before more) (sym (concat-append before more))
 
 adds : (b more : List ℕ) (settings : Settings) (a later : Unlocking) (given : List ℕ) → SameAnswer (header settings (start b)) a later → given ≡ content (judged b settings a)
-    → given ++ added (judged b settings a) (judged (b ++ more) settings later) ≡ content (judged (b ++ more) settings later)
+    → given ++ added_content (judged b settings a) (judged (b ++ more) settings later) ≡ content (judged (b ++ more) settings later)
 adds b more settings a later given same is =
     let units = (follows b more settings a later same).units in
     adding (judged b settings a).units (judged (b ++ more) settings later).units units.0 given is units.1
 
 -- a front of bytes that have no whole header has none
-unread_by : (settings : Settings) (b more : List ℕ) (r : Reading Head) → header settings (start b) ≡ r → head settings (b ++ more) ≡ None → value_of r ≡ None
+unread_by : (settings : Settings) (b more : List ℕ) (r : Reading HeaderFields) → header settings (start b) ≡ r → head settings (b ++ more) ≡ None → value_of r ≡ None
 unread_by settings b more (Read parts p) e none =
     let after = value_stays (header settings) b more parts p (IsSequential-header settings) e in
     absurd (some_none parts (sym (ap value_of after) ∙ none))
   where
-    some_none : (x : Head) → Some x ≡ None → ⊥
+    some_none : (x : HeaderFields) → Some x ≡ None → ⊥
     some_none x e = cc
 unread_by settings b more (Refused fault at) e none = refl
 unread_by settings b more Wanting e none = refl
@@ -124,7 +124,7 @@ unasked true o settings bytes going none e = absurd cc
 unasked false (Some a) settings bytes going none e = absurd cc
 unasked false None settings bytes going none e = unmapped (head settings bytes) e
   where
-    unmapped : (o : Option Head) → Rattle.std.specs.Prelude.option_map (header_of bytes) o ≡ None → o ≡ None
+    unmapped : (o : Option HeaderFields) → Rattle.std.specs.Prelude.option_map (header_of bytes) o ≡ None → o ≡ None
     unmapped None e = refl
     unmapped (Some x) e = absurd cc
 
@@ -133,8 +133,8 @@ kept_on : (v w : OpeningValue) (piece : List ℕ) (n : ℕ) (given : List ℕ) (
     → SameAnswer (header v.settings (start v.taken)) (answer_kept v.answer) (answer_kept answer)
     → answer_at (reach (record v { answer = answer; served = w.served }) piece) (judged (v.taken ++ take (reach (record v { answer = answer; served = w.served }) piece) piece) v.settings (answer_kept answer)).verdict ≡ Ok n
     → (answer ≡ None → head v.settings (v.taken ++ take n piece) ≡ None)
-    → IsKept (record v { answer = answer; served = w.served; taken = v.taken ++ take n piece; stopped = stopped; out = added (judged_now v) (judged (v.taken ++ take n piece) v.settings (answer_kept answer)) })
-    (given ++ added (judged_now v) (judged (v.taken ++ take n piece) v.settings (answer_kept answer)))
+    → IsKept (record v { answer = answer; served = w.served; taken = v.taken ++ take n piece; stopped = stopped; out = added_content (judged_now v) (judged (v.taken ++ take n piece) v.settings (answer_kept answer)) })
+    (given ++ added_content (judged_now v) (judged (v.taken ++ take n piece) v.settings (answer_kept answer)))
 kept_on v w piece n given stopped answer kept same is unheard =
     let k : ℕ = reach (record v { answer = answer; served = w.served }) piece in
     let at = ok_at k n (judged (v.taken ++ take k piece) v.settings (answer_kept answer)).verdict is in
@@ -144,9 +144,9 @@ kept_on v w piece n given stopped answer kept same is unheard =
       unheard = unheard;
     }
 
-pub ok_kept : (v : OpeningValue) (given piece : List ℕ) (heard : Heard) (n : ℕ) → IsKept v given → MayBeHeard (asked_header v piece) (Ok n ≡ Err errors.Memory) heard → step_answer v piece heard ≡ Ok n
-    → IsKept (stepped v piece heard (Ok n)) (given ++ (stepped v piece heard (Ok n)).out)
-unfolding step_answer
+pub ok_kept : (v : OpeningValue) (given piece : List ℕ) (heard : Heard) (n : ℕ) → IsKept v given → MayBeHeard (asked_header v piece) (Ok n ≡ Err errors.Memory) heard → opening_step_answer v piece heard ≡ Ok n
+    → IsKept (opening_stepped v piece heard (Ok n)) (given ++ (opening_stepped v piece heard (Ok n)).out)
+unfolding opening_step_answer
 ok_kept v given piece Nothing n kept may is =
     let on = on_going v.stopped (answer_on v piece Nothing) n is in
     kept_on v v piece n given v.stopped v.answer kept (same_answer (header v.settings (start v.taken)) (answer_kept v.answer)) on.is
@@ -177,7 +177,7 @@ kept_still v given served stopped answer kept same unheard =
     }
 
 err_kept : (v : OpeningValue) (given piece : List ℕ) (short : Type 0) (heard : Heard) (error : OpenError) → IsKept v given → MayBeHeard (asked_header v piece) short heard
-    → IsKept (stepped v piece heard (Err error)) (given ++ [])
+    → IsKept (opening_stepped v piece heard (Err error)) (given ++ [])
 err_kept v given piece short Nothing error kept may = kept_still v given v.served true v.answer kept (heard_same v piece short Nothing may kept.unheard) kept.unheard
 err_kept v given piece short (Found m) error kept may = kept_still v given (Some m.served) true (Some (Unlocks m.context m.only m.key)) kept (heard_same v piece short (Found m) may kept.unheard) (λ none. absurd cc)
 err_kept v given piece short (Named fault) error kept may = kept_still v given v.served true (Some (Refuses fault)) kept (heard_same v piece short (Named fault) may kept.unheard) (λ none. absurd cc)
@@ -185,26 +185,26 @@ err_kept v given piece short Failed error kept may = kept_still v given v.served
 
 -- ---- all calls
 
-kept_event : (v : OpeningValue) (given : List ℕ) (e : Event) → IsKept v given → Meets v e → IsKept (after_event v e) (given ++ (after_event v e).out)
-unfolding finished
+kept_event : (v : OpeningValue) (given : List ℕ) (e : OpeningEvent) → IsKept v given → Meets v e → IsKept (after_opening_event v e) (given ++ (after_opening_event v e).out)
+unfolding opening_finished
 kept_event v given (Step piece heard (Ok n)) kept (may, answers) = ok_kept v given piece heard n kept may answers
 kept_event v given (Step piece heard (Err error)) kept (may, answers) = err_kept v given piece (Err error ≡ Err errors.Memory) heard error kept may
 kept_event v given Finish kept meets = record { released = append-nil given ∙ kept.released; sound = kept.sound; unheard = kept.unheard }
 
-kept_all : (es : List Event) (v : OpeningValue) (given : List ℕ) → IsKept v given → MeetsAll es v → IsKept (after_all es v) (given ++ given_by es v)
-unfolding after_all MeetsAll given_by
+kept_all : (es : List OpeningEvent) (v : OpeningValue) (given : List ℕ) → IsKept v given → MeetsAll es v → IsKept (after_opening_events es v) (given ++ given_by_opening es v)
+unfolding after_opening_events MeetsAll given_by_opening
 kept_all [] v given kept meets = subst (λ (l : List ℕ). IsKept v l) (sym (append-nil given)) kept
 kept_all (e ∷ es) v given kept meets =
-    subst (λ (l : List ℕ). IsKept (after_all es (after_event v e)) l) (append_assoc given (after_event v e).out (given_by es (after_event v e)))
-    (kept_all es (after_event v e) (given ++ (after_event v e).out) (kept_event v given e kept meets.0) meets.1)
+    subst (λ (l : List ℕ). IsKept (after_opening_events es (after_opening_event v e)) l) (append_assoc given (after_opening_event v e).out (given_by_opening es (after_opening_event v e)))
+    (kept_all es (after_opening_event v e) (given ++ (after_opening_event v e).out) (kept_event v given e kept meets.0) meets.1)
 
-pub kept_none : (settings : Settings) (given : List KeyValue) → IsKept (new_session settings given) []
+pub kept_none : (settings : Settings) (given : List KeyValue) → IsKept (new_opening_session settings given) []
 unfolding header opening
 kept_none settings given =
     let is : judged [] settings (answer_kept None) ≡ _ = judged_wanting [] settings (answer_kept None) refl in
     record { released = sym (ap content is); sound = ap (λ (j : Judged). is_faulty j.verdict) is; unheard = λ _. refl }
 
-pub any_cut : (settings : Settings) (given : List KeyValue) (events : List Event) → MeetsAll events (new_session settings given) → IsOpened (after_all events (new_session settings given)) (given_by events (new_session settings given))
+pub any_cut : (settings : Settings) (given : List KeyValue) (events : List OpeningEvent) → MeetsAll events (new_opening_session settings given) → IsOpenedSoFar (after_opening_events events (new_opening_session settings given)) (given_by_opening events (new_opening_session settings given))
 any_cut settings given events meets =
-    let kept = kept_all events (new_session settings given) [] (kept_none settings given) meets in
+    let kept = kept_all events (new_opening_session settings given) [] (kept_none settings given) meets in
     record { released = kept.released; sound = kept.sound }

@@ -7,13 +7,13 @@ use Rattle.esdk_fields.specs.declared.contents.Content.{Content}
 use Rattle.esdk_fields.specs.declared.contents.Content.TheVariants.{Single, Framed}
 use Rattle.esdk_fields.specs.declared.faults.Fault.{Fault}
 use Rattle.esdk_fields.specs.Place.{Place, past, followed}
-use Rattle.esdk_fields.specs.Reading.{Reading, Read, Refused, Wanting, Reader, then_read}
+use Rattle.esdk_fields.specs.Reading.{Reading, Read, Refused, Wanting, FieldReader, then_read}
 use Rattle.esdk_fields.proofs.Fronts.{value_stays_at}
 use Rattle.frame_codec.specs.declared.unit_heads.UnitHead.{UnitHead}
 use Rattle.frame_codec.specs.declared.unit_heads.Head.{Head}
 use Rattle.frame_codec.specs.declared.unit_heads.Head.TheVariants as heads
 use Rattle.frame_codec.specs.UnitHead.{unit_head, head_of}
-use Rattle.frame_codec.specs.Unit.{Piece, More, Last, piece_of, unit, frame, block}
+use Rattle.frame_codec.specs.Unit.{Piece, More, Last, piece_of, unit, frame, block_unit}
 use Rattle.frame_codec.proofs.Fields.{place}
 use Rattle.frame_codec.proofs.Heads.{ReadsHead, head_reads}
 use Rattle.frame_codec.proofs.Steps.{after_head}
@@ -36,20 +36,20 @@ use Rattle.stream_open.specs.Body.{open_unit, unit_width, SameBody, IsBehind}
 
 -- A body's units one after another, as they are read and as they are judged.
 pub record RowOf (content : Content) (max_unit : Option ℕ) (key id : List ℕ) : Type 0 where
-  pub row : ℕ → Reader Piece
+  pub row : ℕ → FieldReader Piece
   pub is_row : IsRow (unit_width content) row
   pub reads : (k : ℕ) (p : Place) → unit content max_unit key id (k + 1) p ≡ row k p
   pub judges : (p : Place) → judged_body content max_unit key id p ≡ judged_units (unit_width content) row p
   pub empty : (k at : ℕ) → row k (place at []) ≡ Wanting
 
-no_block : (max_unit : Option ℕ) (key id : List ℕ) (at : ℕ) → block max_unit key id (place at []) ≡ Wanting
-unfolding block unit unit_head
+no_block : (max_unit : Option ℕ) (key id : List ℕ) (at : ℕ) → block_unit max_unit key id (place at []) ≡ Wanting
+unfolding block_unit unit unit_head
 no_block max_unit key id at = ap (λ r. then_read r (after_head key id)) (block_wants max_unit [] (omega arith) at)
 
 pub row_of : (content : Content) (max_unit : Option ℕ) (key id : List ℕ) → RowOf content max_unit key id
-unfolding judged_body judged_frames judged_block block unit unit_head
+unfolding judged_body judged_frames judged_block block_unit unit unit_head
 row_of Single max_unit key id = record {
-  row = λ k. block max_unit key id;
+  row = λ k. block_unit max_unit key id;
   is_row = block_row max_unit key id;
   reads = λ k p. refl;
   judges = λ p. refl;
@@ -73,7 +73,7 @@ record SlotStays (front whole : Reading Piece) : Type 0 where
   more : is_more whole ≡ true
   same : released whole ≡ released front
 
-slot_followed : (width : ℕ) (row : ℕ → Reader Piece) (p : Place) (more : List ℕ) (j : ℕ) → IsRow width row → is_more (slot width row p j) ≡ true
+slot_followed : (width : ℕ) (row : ℕ → FieldReader Piece) (p : Place) (more : List ℕ) (j : ℕ) → IsRow width row → is_more (slot width row p j) ≡ true
     → SlotStays (slot width row p j) (slot width row (followed p more) j)
 slot_followed width row p more j is_row h =
     let read = more_read (slot width row p j) h in
@@ -84,10 +84,10 @@ slot_followed width row p more j is_row h =
     record { more = ap is_more is; same = ap released is ∙ sym (ap released read.is) }
 
 -- the contents of the first k units
-abbrev pub units_before : ℕ → (ℕ → Reader Piece) → Place → ℕ → List (List ℕ)
+abbrev pub units_before : ℕ → (ℕ → FieldReader Piece) → Place → ℕ → List (List ℕ)
 units_before width row p k = flat_map (λ j. released (slot width row p j)) (range_with_len 0 k)
 
-passed_followed : (width : ℕ) (row : ℕ → Reader Piece) (p : Place) (more : List ℕ) (k : ℕ) → IsRow width row → ((j : ℕ) → j < k → is_more (slot width row p j) ≡ true)
+passed_followed : (width : ℕ) (row : ℕ → FieldReader Piece) (p : Place) (more : List ℕ) (k : ℕ) → IsRow width row → ((j : ℕ) → j < k → is_more (slot width row p j) ≡ true)
     → Passed width row (followed p more) k (followed (past (k * width) p) more) (units_before width row p k)
 passed_followed width row p more k is_row good = record {
   place_is = sym (past_followed (k * width) p more (slots_within width row p k is_row good));
@@ -168,7 +168,7 @@ said_as units verdict = record { units = units; verdict = verdict }
 unmade : (units : List (List ℕ)) (verdict : Verdict) → said_as units verdict ≡ said_as (units ++ []) verdict
 unmade units verdict = ap (λ (l : List (List ℕ)). said_as l verdict) (sym (append-nil units))
 
-row_said : (width : ℕ) (row : ℕ → Reader Piece) (q : Place) (k : ℕ) (here : Place) (units : List (List ℕ)) (r : Reading Piece) → IsRow width row → ((j at : ℕ) → row j (place at []) ≡ Wanting)
+row_said : (width : ℕ) (row : ℕ → FieldReader Piece) (q : Place) (k : ℕ) (here : Place) (units : List (List ℕ)) (r : Reading Piece) → IsRow width row → ((j at : ℕ) → row j (place at []) ≡ Wanting)
     → Passed width row q k here units → row k here ≡ r → Clean r → judged_units width row q ≡ said units r
 row_said width row q k here units (Read (More content) next) is_row empty passed e clean =
     wanting_end width row q (k + 1) (units ++ content ∷ []) next is_row (passed_more width row q k here units content next is_row passed e)

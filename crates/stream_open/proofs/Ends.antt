@@ -6,8 +6,8 @@ use Rattle.std.proofs.lemmas.List.Sums.{prefix_len-le-length, prefix_len_passes,
 use Rattle.std.proofs.lemmas.List.FromFn.{length-range_with_len, get_or-range_with_len}
 use Rattle.stream_open.specs.declared.errors.OpenError.TheVariants as errors
 use Rattle.stream_open.specs.Asking.{Heard, Nothing, Found, Named, Failed}
-use Rattle.stream_open.specs.Session.{OpeningValue, judged_with, keeping, is_stop, reach, answer_on, step_answer}
-use Rattle.stream_open.specs.Laws.{EndsAt, EndsExactly}
+use Rattle.stream_open.specs.Session.{OpeningValue, judged_with, keeping, is_stop, reach, answer_on, opening_step_answer}
+use Rattle.stream_open.specs.Laws.{FirstStopIsAt, EndsExactly}
 use Rattle.stream_open.proofs.AnyCut.{ok_at, on_going}
 
 -- ---- the first number from 1 on that a test stops at
@@ -50,17 +50,17 @@ first_stop stop most =
 
 -- ---- steps
 
-pub reach_ends : (v : OpeningValue) (piece : List ℕ) → EndsAt v piece (reach v piece)
+pub reach_ends : (v : OpeningValue) (piece : List ℕ) → FirstStopIsAt v piece (reach v piece)
 unfolding reach
 reach_ends v piece =
     let first = first_stop (is_stop v piece) (length piece) in
     record { within = first.within; some = first.some; before = first.before; here = first.here }
 
-ends_at : (v : OpeningValue) (piece : List ℕ) (n : ℕ) → reach v piece ≡ n → EndsAt v piece n
-ends_at v piece n e = subst (λ (k : ℕ). EndsAt v piece k) e (reach_ends v piece)
+ends_at : (v : OpeningValue) (piece : List ℕ) (n : ℕ) → reach v piece ≡ n → FirstStopIsAt v piece n
+ends_at v piece n e = subst (λ (k : ℕ). FirstStopIsAt v piece k) e (reach_ends v piece)
 
-used_by : (v : OpeningValue) (piece : List ℕ) (heard : Heard) (n : ℕ) → step_answer v piece heard ≡ Ok n → EndsAt (keeping v heard) piece n
-unfolding step_answer
+used_by : (v : OpeningValue) (piece : List ℕ) (heard : Heard) (n : ℕ) → opening_step_answer v piece heard ≡ Ok n → FirstStopIsAt (keeping v heard) piece n
+unfolding opening_step_answer
 used_by v piece Nothing n is =
     ends_at v piece n (ok_at (reach v piece) n (judged_with v piece (reach v piece)).verdict (on_going v.stopped (answer_on v piece Nothing) n is).is).same
 used_by v piece (Found m) n is =

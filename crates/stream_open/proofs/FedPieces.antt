@@ -5,7 +5,7 @@ use Rattle.esdk_fields.specs.Place.{start}
 use Rattle.context_codec.specs.Context.{KeyValue}
 use Rattle.header_codec.specs.declared.settings.Settings.{Settings}
 use Rattle.header_codec.specs.Header.{HeaderValue}
-use Rattle.header_codec.specs.Table.{Head, header}
+use Rattle.header_codec.specs.Table.{HeaderFields, header}
 use Rattle.keyring_trait.specs.Manager.{ManagerNow}
 use Rattle.keyring_trait.specs.Saying.{Saying, said_last}
 use Rattle.keyring_trait.specs.Unlocking.{Unlocking}
@@ -82,7 +82,7 @@ heads_same v w first second settings taken =
 none_whole : (v w : OpeningValue) (first : List ℕ) → GoesOn w → w.settings ≡ v.settings → w.taken ≡ v.taken ++ first → w.answer ≡ None → header_in v.settings (v.taken ++ first) ≡ None
 none_whole v w first goes settings taken e =
     ap (λ (s : Settings). header_in s (v.taken ++ first)) (sym settings) ∙ ap (λ (l : List ℕ). header_in w.settings l) (sym taken)
-    ∙ ap (λ (o : Option Head). option_map (header_of w.taken) o) (goes.unheard e)
+    ∙ ap (λ (o : Option HeaderFields). option_map (header_of w.taken) o) (goes.unheard e)
 
 -- where nothing is asked behind them, it is as if all came at once
 unasked_first : (v : OpeningValue) (first second : List ℕ) (o : Option HeaderValue) → GoesOn v → v.answer ≡ None → header_in v.settings (v.taken ++ first) ≡ o

@@ -7,12 +7,12 @@ use Rattle.std.proofs.lemmas.List.{append-nil, length-append, length-take}
 use Rattle.esdk_fields.specs.declared.contents.Content.{Content}
 use Rattle.esdk_fields.specs.declared.faults.Fault.{Fault}
 use Rattle.esdk_fields.specs.Place.{Place, start, followed}
-use Rattle.esdk_fields.specs.Reading.{Reading, Read, Refused, Wanting, value_of, fault_of}
+use Rattle.esdk_fields.specs.Reading.{Reading, Read, Refused, Wanting, value_of, reading_fault}
 use Rattle.esdk_fields.proofs.Fronts.{read_after, end_stays, value_stays}
 use Rattle.context_codec.specs.Context.{KeyValue}
 use Rattle.header_codec.specs.declared.settings.Settings.{Settings}
 use Rattle.header_codec.specs.Header.{HeaderValue}
-use Rattle.header_codec.specs.Table.{Head, header, header_fault}
+use Rattle.header_codec.specs.Table.{HeaderFields, header, header_fault}
 use Rattle.header_codec.proofs.Order.{IsSequential-header}
 use Rattle.keyring_trait.specs.Unlocking.{Unlocking, Refuses, Unlocks}
 use Rattle.frame_codec.specs.Unit.{Piece, More, Last}
@@ -30,11 +30,11 @@ use Rattle.stream_open.specs.declared.unlocked.Unlocked.{Unlocked}
 use Rattle.stream_open.specs.declared.errors.OpenError.{OpenError}
 use Rattle.stream_open.specs.declared.errors.OpenError.TheVariants as errors
 use Rattle.stream_open.specs.Asking.{Heard, Nothing, Found, Named, Failed}
-use Rattle.stream_open.specs.Body.{unit_reach, unit_width, open_unit}
+use Rattle.stream_open.specs.Body.{reach_in_piece, unit_width, open_unit}
 use Rattle.stream_open.specs.Feeding.{GoesOn, judged_all, FindsFault}
-use Rattle.stream_open.specs.Laws.{MayBeHeard, EndsAt}
-use Rattle.stream_open.specs.Session.{OpeningValue, answer_kept, judged_now, judged_with, header_asked, asked_header, keeping, is_faulty, is_stop, reach, answer_at, answer_on, step_answer}
-use Rattle.stream_open.specs.Stands.{IsUnlocked}
+use Rattle.stream_open.specs.Laws.{MayBeHeard, FirstStopIsAt}
+use Rattle.stream_open.specs.Session.{OpeningValue, answer_kept, judged_now, judged_with, header_asked, asked_header, keeping, is_faulty, is_stop, reach, answer_at, answer_on, opening_step_answer}
+use Rattle.stream_open.specs.Stands.{OpenerIsUnlocked}
 use Rattle.stream_open.proofs.AnyCut.{same_answer}
 use Rattle.stream_open.proofs.Behind.{Clean, said, behind_units, row_of}
 use Rattle.stream_open.proofs.Ends.{reach_ends}
@@ -46,8 +46,8 @@ use Rattle.stream_open.proofs.Standing.{judged_unlocked}
 
 -- ---- the answer
 
-pub answered_on : (v : OpeningValue) (piece : List ℕ) (heard : Heard) → v.stopped ≡ false → step_answer v piece heard ≡ answer_on v piece heard
-unfolding step_answer
+pub answered_on : (v : OpeningValue) (piece : List ℕ) (heard : Heard) → v.stopped ≡ false → opening_step_answer v piece heard ≡ answer_on v piece heard
+unfolding opening_step_answer
 answered_on v piece heard going = ap (λ (b : Bool). if b then Err errors.Stopped else answer_on v piece heard) going
 
 fault_at : (n : ℕ) (verdict : Verdict) (fault : Fault) → answer_at n verdict ≡ Err (errors.Fault fault) → verdict ≡ Faulty fault
@@ -67,9 +67,9 @@ other_error fault e = cc
 -- With so many bytes of the piece, where the step ends, there is the fault.
 pub record FaultyAt (w : OpeningValue) (piece : List ℕ) (fault : Fault) : Type 0 where
   pub verdict : (judged_with w piece (reach w piece)).verdict ≡ Faulty fault
-  pub ends : EndsAt w piece (reach w piece)
+  pub ends : FirstStopIsAt w piece (reach w piece)
 
-pub faulty_at : (v : OpeningValue) (piece : List ℕ) (heard : Heard) (fault : Fault) → v.stopped ≡ false → step_answer v piece heard ≡ Err (errors.Fault fault) → FaultyAt (keeping v heard) piece fault
+pub faulty_at : (v : OpeningValue) (piece : List ℕ) (heard : Heard) (fault : Fault) → v.stopped ≡ false → opening_step_answer v piece heard ≡ Err (errors.Fault fault) → FaultyAt (keeping v heard) piece fault
 faulty_at v piece Nothing fault going is =
     record { verdict = fault_at (reach v piece) (judged_with v piece (reach v piece)).verdict fault (sym (answered_on v piece Nothing going) ∙ is); ends = reach_ends v piece }
 faulty_at v piece (Found m) fault going is =
@@ -104,7 +104,7 @@ faulty_releases Wanting fault clean e = refl
 abbrev text_of : List (List ℕ) → List ℕ
 text_of units = concat units
 
-behind_by : (u : Unlocked) (v : OpeningValue) (piece : List ℕ) (fault : Fault) (ended : Bool) → IsUnlocked u v → v.stopped ≡ false → u.body.ended ≡ ended
+behind_by : (u : Unlocked) (v : OpeningValue) (piece : List ℕ) (fault : Fault) (ended : Bool) → OpenerIsUnlocked u v → v.stopped ≡ false → u.body.ended ≡ ended
     → (judged_with v piece (reach v piece)).verdict ≡ Faulty fault → content (judged_with v piece (reach v piece)) ≡ content (judged_now v)
 behind_by u v piece fault true at going e faulty =
     let n : ℕ = reach v piece in
@@ -113,7 +113,7 @@ behind_by u v piece fault true at going e faulty =
     ∙ sym (ap content (judged_unlocked u v at))
 behind_by u v piece fault false at going e faulty =
     let behind = at.behind.going going e in
-    let n : ℕ = unit_reach u.body piece in
+    let n : ℕ = reach_in_piece u.body piece in
     let clean = clean_at u.body piece behind.wanting in
     let units : List (List ℕ) = behind_units u.body at.place in
     let r : Reading Piece = open_unit u.body (u.body.unit.held ++ take n piece) in
@@ -143,7 +143,7 @@ opened_stop w piece k j now with_k =
     ∙ or_true (is_faulty j.verdict) (nat_lt 0 (length j.units + 1)) (lt-ltb 0 (length j.units + 1) (omega arith))
 
 -- the header with these bytes is the one with those
-same_header : (w : OpeningValue) (piece : List ℕ) (k n : ℕ) (parts other : Head) (p q : Place) → header w.settings (start (w.taken ++ take n piece)) ≡ Read parts p
+same_header : (w : OpeningValue) (piece : List ℕ) (k n : ℕ) (parts other : HeaderFields) (p q : Place) → header w.settings (start (w.taken ++ take n piece)) ≡ Read parts p
     → header w.settings (start (w.taken ++ take k piece)) ≡ Read other q → parts ≡ other → header_of (w.taken ++ take k piece) other ≡ header_of (w.taken ++ take n piece) parts
 same_header w piece k n parts other p q at_n at_k same =
     sym (header_stays w.settings (w.taken ++ take k piece) (drop k piece) other q at_k) ∙ ap (λ (l : List ℕ). header_of l other) (front_whole w.taken piece k)
@@ -154,7 +154,7 @@ true_false : true ≡ false → ⊥
 true_false e = cc
 
 -- With fewer bytes than a step used there was no whole header, where its answer unlocks it.
-waits_before : (w : OpeningValue) (piece : List ℕ) (k n : ℕ) (parts : Head) (p : Place) (whole only : List KeyValue) (key : List ℕ) → header w.settings (start w.taken) ≡ Wanting → EndsAt w piece n → k < n
+waits_before : (w : OpeningValue) (piece : List ℕ) (k n : ℕ) (parts : HeaderFields) (p : Place) (whole only : List KeyValue) (key : List ℕ) → header w.settings (start w.taken) ≡ Wanting → FirstStopIsAt w piece n → k < n
     → header w.settings (start (w.taken ++ take n piece)) ≡ Read parts p → answer_kept w.answer ≡ Unlocks whole only key → lock_fault (header_of (w.taken ++ take n piece) parts) only key ≡ None
     → header w.settings (start (w.taken ++ take k piece)) ≡ Wanting
 waits_before w piece k n parts p whole only key now ends few at_n answer opens =
@@ -181,14 +181,14 @@ waits_before w piece k n parts p whole only key now ends few at_n answer opens =
         ap (λ (l : List ℕ). header w.settings (start l)) (sym (front_whole w.taken piece n))
         ∙ value_stays (header w.settings) (w.taken ++ take n piece) (drop n piece) parts p (IsSequential-header w.settings) at_n
 
-    same_read : (x y : Head) (p q : Place) → Read x p ≡ Read y q → x ≡ y
+    same_read : (x y : HeaderFields) (p q : Place) → Read x p ≡ Read y q → x ≡ y
     same_read x y p q e = cc
 
     read_not_refused : {q : Place} {fault : Fault} {at : ℕ} → Read parts q ≡ Refused fault at → ⊥
     read_not_refused e = cc
 
 -- so no byte of the body came
-nothing_left : (w : OpeningValue) (piece : List ℕ) (n : ℕ) (parts : Head) (p : Place) (whole only : List KeyValue) (key : List ℕ) → header w.settings (start w.taken) ≡ Wanting → EndsAt w piece n
+nothing_left : (w : OpeningValue) (piece : List ℕ) (n : ℕ) (parts : HeaderFields) (p : Place) (whole only : List KeyValue) (key : List ℕ) → header w.settings (start w.taken) ≡ Wanting → FirstStopIsAt w piece n
     → header w.settings (start (w.taken ++ take n piece)) ≡ Read parts p → answer_kept w.answer ≡ Unlocks whole only key → lock_fault (header_of (w.taken ++ take n piece) parts) only key ≡ None → p.left ≡ []
 nothing_left w piece n parts p whole only key now ends at_n answer opens =
     elim (cases_lt 0 n) [
@@ -226,8 +226,8 @@ record IsShut (j : Judged) : Type 0 where
 shut_with : (j : Judged) (verdict : Verdict) → j ≡ locked verdict → IsShut j
 shut_with j verdict is = record { locked = ap (λ (k : Judged). k.unlocked) is; released = ap content is }
 
-locked_lock : (w : OpeningValue) (piece : List ℕ) (n : ℕ) (fault : Fault) (parts : Head) (p : Place) (whole only : List KeyValue) (key : List ℕ) (lock : Option Fault)
-    → header w.settings (start w.taken) ≡ Wanting → EndsAt w piece n → (judged_with w piece n).verdict ≡ Faulty fault
+locked_lock : (w : OpeningValue) (piece : List ℕ) (n : ℕ) (fault : Fault) (parts : HeaderFields) (p : Place) (whole only : List KeyValue) (key : List ℕ) (lock : Option Fault)
+    → header w.settings (start w.taken) ≡ Wanting → FirstStopIsAt w piece n → (judged_with w piece n).verdict ≡ Faulty fault
     → header w.settings (start (w.taken ++ take n piece)) ≡ Read parts p → answer_kept w.answer ≡ Unlocks whole only key → lock_fault (header_of (w.taken ++ take n piece) parts) only key ≡ lock
     → IsShut (judged_with w piece n)
 locked_lock w piece n fault parts p whole only key (Some other) now ends faulty at_n answer is =
@@ -241,7 +241,7 @@ locked_lock w piece n fault parts p whole only key None now ends faulty at_n ans
     let going = empty_going h.content w.settings.max_unit _ h.message_id p (nothing_left w piece n parts p whole only key now ends at_n answer is) in
     absurd (going_not fault (sym going ∙ sym (ap (λ (j : Judged). j.verdict) with_n) ∙ faulty))
 
-locked_answer : (w : OpeningValue) (piece : List ℕ) (n : ℕ) (fault : Fault) (parts : Head) (p : Place) (a : Unlocking) → header w.settings (start w.taken) ≡ Wanting → EndsAt w piece n
+locked_answer : (w : OpeningValue) (piece : List ℕ) (n : ℕ) (fault : Fault) (parts : HeaderFields) (p : Place) (a : Unlocking) → header w.settings (start w.taken) ≡ Wanting → FirstStopIsAt w piece n
     → (judged_with w piece n).verdict ≡ Faulty fault → header w.settings (start (w.taken ++ take n piece)) ≡ Read parts p → answer_kept w.answer ≡ a → IsShut (judged_with w piece n)
 locked_answer w piece n fault parts p (Refuses other) now ends faulty at_n answer =
     shut_with (judged_with w piece n) (Faulty other)
@@ -249,7 +249,7 @@ locked_answer w piece n fault parts p (Refuses other) now ends faulty at_n answe
 locked_answer w piece n fault parts p (Unlocks whole only key) now ends faulty at_n answer =
     locked_lock w piece n fault parts p whole only key (lock_fault (header_of (w.taken ++ take n piece) parts) only key) now ends faulty at_n answer refl
 
-locked_reading : (w : OpeningValue) (piece : List ℕ) (n : ℕ) (fault : Fault) (r : Reading Head) → header w.settings (start w.taken) ≡ Wanting → EndsAt w piece n → (judged_with w piece n).verdict ≡ Faulty fault
+locked_reading : (w : OpeningValue) (piece : List ℕ) (n : ℕ) (fault : Fault) (r : Reading HeaderFields) → header w.settings (start w.taken) ≡ Wanting → FirstStopIsAt w piece n → (judged_with w piece n).verdict ≡ Faulty fault
     → header w.settings (start (w.taken ++ take n piece)) ≡ r → IsShut (judged_with w piece n)
 locked_reading w piece n fault (Read parts p) now ends faulty is = locked_answer w piece n fault parts p (answer_kept w.answer) now ends faulty is refl
 locked_reading w piece n fault (Refused other at) now ends faulty is =
@@ -297,13 +297,13 @@ released_by v piece heard fault goes may (Behind u iu) at =
 
 -- ---- the header's fault
 
-header_by : (v : OpeningValue) (piece : List ℕ) (fault : Fault) (r : Reading Head) → GoesOn v → v.answer ≡ None → asked_header v piece ≡ None
-    → (judged (v.taken ++ piece) v.settings (answer_kept v.answer)).verdict ≡ Faulty fault → header v.settings (start (v.taken ++ piece)) ≡ r → fault_of r ≡ Some fault
+header_by : (v : OpeningValue) (piece : List ℕ) (fault : Fault) (r : Reading HeaderFields) → GoesOn v → v.answer ≡ None → asked_header v piece ≡ None
+    → (judged (v.taken ++ piece) v.settings (answer_kept v.answer)).verdict ≡ Faulty fault → header v.settings (start (v.taken ++ piece)) ≡ r → reading_fault r ≡ Some fault
 header_by v piece fault (Read parts p) goes none unasked_here faulty is =
     absurd (some_none
     (sym (ap (λ (b : Bool). if b then None else header_asked v.answer v.settings (v.taken ++ piece)) goes.going
     ∙ ap (λ (o : Option Unlocking). header_asked o v.settings (v.taken ++ piece)) none
-    ∙ ap (λ (r : Reading Head). option_map (header_of (v.taken ++ piece)) (value_of r)) is)
+    ∙ ap (λ (r : Reading HeaderFields). option_map (header_of (v.taken ++ piece)) (value_of r)) is)
     ∙ unasked_here))
   where
     some_none : Some (header_of (v.taken ++ piece) parts) ≡ None → ⊥
@@ -320,7 +320,7 @@ header_by v piece fault (Refused other at) goes none unasked_here faulty is =
 header_by v piece fault Wanting goes none unasked_here faulty is =
     absurd (going_not fault (sym (ap (λ (j : Judged). j.verdict) (judged_wanting (v.taken ++ piece) v.settings (answer_kept v.answer) is)) ∙ faulty))
 
-unheard_by : (v : OpeningValue) (piece : List ℕ) (heard : Heard) (fault : Fault) → GoesOn v → MayBeHeard (asked_header v piece) ⊥ heard → step_answer v piece heard ≡ Err (errors.Fault fault)
+unheard_by : (v : OpeningValue) (piece : List ℕ) (heard : Heard) (fault : Fault) → GoesOn v → MayBeHeard (asked_header v piece) ⊥ heard → opening_step_answer v piece heard ≡ Err (errors.Fault fault)
     → (judged_all v piece heard).verdict ≡ Faulty fault → (keeping v heard).answer ≡ None → header_fault v.settings (v.taken ++ piece) ≡ Some fault
 unheard_by v piece Nothing fault goes (inl none) is faulty unheard = header_by v piece fault (header v.settings (start (v.taken ++ piece))) goes unheard none faulty refl
 unheard_by v piece Nothing fault goes (inr never) is faulty unheard = absurd never
@@ -337,7 +337,7 @@ all_is v piece (Found m) n fault e = with_all (keeping v (Found m)) piece n faul
 all_is v piece (Named named) n fault e = with_all (keeping v (Named named)) piece n fault e
 all_is v piece Failed n fault e = with_all v piece n fault e
 
-pub finds_fault : (v : OpeningValue) (piece : List ℕ) (heard : Heard) (fault : Fault) → GoesOn v → MayBeHeard (asked_header v piece) ⊥ heard → step_answer v piece heard ≡ Err (errors.Fault fault)
+pub finds_fault : (v : OpeningValue) (piece : List ℕ) (heard : Heard) (fault : Fault) → GoesOn v → MayBeHeard (asked_header v piece) ⊥ heard → opening_step_answer v piece heard ≡ Err (errors.Fault fault)
     → FindsFault v piece heard fault
 finds_fault v piece heard fault goes may is =
     let at = faulty_at v piece heard fault goes.going is in
@@ -353,7 +353,7 @@ finds_fault v piece heard fault goes may is =
     }
 
 -- A fault that is found before the header is unlocked leaves the message locked.
-pub faulty_locked : (v : OpeningValue) (piece : List ℕ) (heard : Heard) (fault : Fault) → GoesOn v → header v.settings (start v.taken) ≡ Wanting → step_answer v piece heard ≡ Err (errors.Fault fault)
+pub faulty_locked : (v : OpeningValue) (piece : List ℕ) (heard : Heard) (fault : Fault) → GoesOn v → header v.settings (start v.taken) ≡ Wanting → opening_step_answer v piece heard ≡ Err (errors.Fault fault)
     → (judged_all v piece heard).unlocked ≡ false
 faulty_locked v piece heard fault goes now is =
     let at = faulty_at v piece heard fault goes.going is in

@@ -9,7 +9,7 @@ use Rattle.esdk_fields.specs.Place.{Place, start, past}
 use Rattle.esdk_fields.specs.Reading.{Reading, Read, Refused, Wanting, value_of}
 use Rattle.context_codec.specs.Context.{KeyValue}
 use Rattle.header_codec.specs.Header.{HeaderValue}
-use Rattle.header_codec.specs.Table.{Head, header}
+use Rattle.header_codec.specs.Table.{HeaderFields, header}
 use Rattle.keyring_trait.specs.Unlocking.{Unlocking, Refuses, Unlocks}
 use Rattle.suite_table.specs.Keys.{derived}
 use Rattle.frame_codec.specs.Unit.{Piece, More, Last, unit}
@@ -27,7 +27,7 @@ use Rattle.stream_open.specs.declared.session.Opener.{Opener}
 use Rattle.stream_open.specs.Body.{HoldsFrames, IsBehind, unit_width}
 use Rattle.stream_open.specs.Feeding.{GoesOn}
 use Rattle.stream_open.specs.Session.{OpeningValue, answer_kept, judged_now, is_faulty, framed}
-use Rattle.stream_open.specs.Stands.{IsUnlocked, StandsAt, Stands}
+use Rattle.stream_open.specs.Stands.{OpenerIsUnlocked, StandsAt, Stands}
 use Rattle.stream_open.proofs.Behind.{row_of, unit_says}
 use Rattle.stream_open.proofs.Standing.{judged_locked as judged_waiting, judged_unlocked}
 
@@ -96,7 +96,7 @@ stands_behind content max_unit key id p ended going =
 
 pub data Standing (v : OpeningValue) : Type 0 where
   InHeader : header v.settings (start v.taken) ≡ Wanting → Standing v
-  Behind : (u : Unlocked) → IsUnlocked u v → Standing v
+  Behind : (u : Unlocked) → OpenerIsUnlocked u v → Standing v
 
 faulty_not : (fault : Fault) → is_faulty (Faulty fault) ≡ false → ⊥
 faulty_not fault e = cc
@@ -113,7 +113,7 @@ derived_key h key = derived h.suite key h.message_id
 abbrev body_behind : OpeningValue → HeaderValue → List ℕ → Place → Bool → Body
 body_behind v h key p ended = standing_body h.content v.settings.max_unit (derived_key h key) h.message_id p ended
 
-stands_by : (v : OpeningValue) (parts : Head) (p : Place) (whole only : List KeyValue) (key : List ℕ) (verdict : Verdict) → GoesOn v → header v.settings (start v.taken) ≡ Read parts p
+stands_by : (v : OpeningValue) (parts : HeaderFields) (p : Place) (whole only : List KeyValue) (key : List ℕ) (verdict : Verdict) → GoesOn v → header v.settings (start v.taken) ≡ Read parts p
     → v.answer ≡ Some (Unlocks whole only key) → lock_fault (header_of v.taken parts) only key ≡ None
     → (judged_body (header_of v.taken parts).content v.settings.max_unit (derived_key (header_of v.taken parts) key) (header_of v.taken parts).message_id p).verdict ≡ verdict → verdict ≡ (judged_now v).verdict → Standing v
 stands_by v parts p whole only key (Faulty fault) goes reads answer opens is same = absurd (faulty_not fault (ap is_faulty same ∙ goes.sound))
@@ -147,7 +147,7 @@ stands_by v parts p whole only key Whole goes reads answer opens is same =
     true_false : true ≡ false → ⊥
     true_false e = cc
 
-stands_lock : (v : OpeningValue) (parts : Head) (p : Place) (whole only : List KeyValue) (key : List ℕ) (lock : Option Fault) → GoesOn v → header v.settings (start v.taken) ≡ Read parts p
+stands_lock : (v : OpeningValue) (parts : HeaderFields) (p : Place) (whole only : List KeyValue) (key : List ℕ) (lock : Option Fault) → GoesOn v → header v.settings (start v.taken) ≡ Read parts p
     → v.answer ≡ Some (Unlocks whole only key) → lock_fault (header_of v.taken parts) only key ≡ lock → Standing v
 stands_lock v parts p whole only key (Some fault) goes reads answer is =
     absurd (unfaulted v fault goes
@@ -162,8 +162,8 @@ stands_lock v parts p whole only key None goes reads answer is =
     ∙ judged_opened v.settings h p whole only key is in
     stands_by v parts p whole only key (judged_body h.content v.settings.max_unit (derived_key h key) h.message_id p).verdict goes reads answer is refl (sym (ap (λ (j : Judged). j.verdict) now))
 
-stands_answer : (v : OpeningValue) (parts : Head) (p : Place) (o : Option Unlocking) → GoesOn v → header v.settings (start v.taken) ≡ Read parts p → v.answer ≡ o → Standing v
-stands_answer v parts p None goes reads answer = absurd (none_some (sym (goes.unheard answer) ∙ ap (λ (r : Reading Head). value_of r) reads))
+stands_answer : (v : OpeningValue) (parts : HeaderFields) (p : Place) (o : Option Unlocking) → GoesOn v → header v.settings (start v.taken) ≡ Read parts p → v.answer ≡ o → Standing v
+stands_answer v parts p None goes reads answer = absurd (none_some (sym (goes.unheard answer) ∙ ap (λ (r : Reading HeaderFields). value_of r) reads))
   where
     none_some : None ≡ Some parts → ⊥
     none_some e = cc
@@ -171,7 +171,7 @@ stands_answer v parts p (Some (Refuses fault)) goes reads answer =
     absurd (unfaulted v fault goes (ap (λ (o : Option Unlocking). judged v.taken v.settings (answer_kept o)) answer ∙ judged_read v.taken v.settings (Refuses fault) parts p reads))
 stands_answer v parts p (Some (Unlocks whole only key)) goes reads answer = stands_lock v parts p whole only key (lock_fault (header_of v.taken parts) only key) goes reads answer refl
 
-stands_reading : (v : OpeningValue) (r : Reading Head) → GoesOn v → header v.settings (start v.taken) ≡ r → Standing v
+stands_reading : (v : OpeningValue) (r : Reading HeaderFields) → GoesOn v → header v.settings (start v.taken) ≡ r → Standing v
 stands_reading v (Read parts p) goes reads = stands_answer v parts p v.answer goes reads refl
 stands_reading v (Refused fault at) goes reads = absurd (unfaulted v fault goes (judged_refused v.taken v.settings (answer_kept v.answer) fault at reads))
 stands_reading v Wanting goes reads = InHeader reads
@@ -189,7 +189,7 @@ goes_at : (opener : Opener) (v : OpeningValue) (o : Option Unlocked) → v.stopp
 goes_at opener v None going at = record {
   going = going;
   sound = ap (λ (j : Judged). is_faulty j.verdict) (judged_waiting opener v at);
-  unheard = λ e. ap (λ (r : Reading Head). value_of r) at.wanting;
+  unheard = λ e. ap (λ (r : Reading HeaderFields). value_of r) at.wanting;
 }
 goes_at opener v (Some u) going at = record {
   going = going;

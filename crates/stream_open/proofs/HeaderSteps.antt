@@ -12,7 +12,7 @@ use Rattle.context_codec.specs.Context.{KeyValue}
 use Rattle.header_codec.specs.Header.{HeaderValue}
 use Rattle.header_codec.specs.Session.{HeaderAnswers, Session, answer_to}
 use Rattle.header_codec.specs.Stands.{Stands as Reads}
-use Rattle.header_codec.specs.Table.{Head, header}
+use Rattle.header_codec.specs.Table.{HeaderFields, header}
 use Rattle.keyring_trait.specs.declared.served.Served.{Served}
 use Rattle.keyring_trait.specs.Manager.{ManagerNow}
 use Rattle.keyring_trait.specs.Materials.{DecMaterialsValue}
@@ -31,8 +31,8 @@ use Rattle.message_format.specs.Unlocking.{BearsHeard, request_of, Answered, Una
 use Rattle.stream_open.specs.Errors.{locked_as}
 use Rattle.stream_open.specs.Asking.{Nothing, Found, Named, Failed}
 use Rattle.stream_open.specs.Body.{IsBehind}
-use Rattle.stream_open.specs.Session.{OpeningValue, answer_kept, judged_now, judged_with, keeping, is_faulty, is_stop, reach, added, answer_at, answer_on, step_answer, stepped}
-use Rattle.stream_open.specs.Stands.{out_of, unread_as, IsBodyOf, IsLocked, StandsAt, Stands, Steps}
+use Rattle.stream_open.specs.Session.{OpeningValue, answer_kept, judged_now, judged_with, keeping, is_faulty, is_stop, reach, added_content, answer_at, answer_on, opening_step_answer, opening_stepped}
+use Rattle.stream_open.specs.Stands.{opener_out, unread_as, IsBodyOf, OpenerIsLocked, StandsAt, Stands, OpenerSteps}
 use Rattle.stream_open.specs.Unlocking.{IsBegun}
 use Rattle.stream_open.proofs.Behind.{said_as, judged_here, behind_first, none_before}
 use Rattle.stream_open.proofs.Headers.{refused_answer, wanting_answer, none_asked, Shown, shown_asked, kept_shown, named_answer, locked_answer, failed_answer, runs_out_locked, used_all}
@@ -40,7 +40,7 @@ use Rattle.stream_open.proofs.Standing.{body_same, stands_as}
 
 -- ---- where the session stands
 
-pub locked_at : (opener : Opener) (v : OpeningValue) → opener.unlocked ≡ None → Stands opener v → IsLocked opener v
+pub locked_at : (opener : Opener) (v : OpeningValue) → opener.unlocked ≡ None → Stands opener v → OpenerIsLocked opener v
 locked_at opener v is stands = stands_as opener v None is stands
 
 -- an error stops it before the header is unlocked
@@ -52,7 +52,7 @@ stands_off opener next v answer served stands now settings given is stopped unlo
   given = given ∙ stands.given;
   served = is;
   stopped = stopped;
-  out = ap out_of unlocked;
+  out = ap opener_out unlocked;
   at = subst (λ (o : Option Unlocked). StandsAt next (record v { answer = answer; served = served; stopped = true; out = [] }) o) (sym unlocked)
       (record { reads = λ e. absurd cc; unheard = λ e. absurd cc; wanting = now });
 }
@@ -60,10 +60,10 @@ stands_off opener next v answer served stands now settings given is stopped unlo
 -- ---- the reader answered an error
 
 -- the bytes have a fault in the header
-pub steps_refused : (first last : ManagerNow) (moment : ℕ) (opener next : Opener) (v : OpeningValue) (piece : List ℕ) (fault : Fault) (at : ℕ) → Stands opener v → v.stopped ≡ false → IsLocked opener v → BearsHeard first last moment None
+pub steps_refused : (first last : ManagerNow) (moment : ℕ) (opener next : Opener) (v : OpeningValue) (piece : List ℕ) (fault : Fault) (at : ℕ) → Stands opener v → v.stopped ≡ false → OpenerIsLocked opener v → BearsHeard first last moment None
     → header v.settings (start (v.taken ++ piece)) ≡ Refused fault at
     → next.settings ≡ opener.settings → next.given ≡ opener.given → next.served ≡ opener.served → next.stopped ≡ true → next.unlocked ≡ None
-    → Steps first last moment v piece (Err (errors.Fault fault)) next
+    → OpenerSteps first last moment v piece (Err (errors.Fault fault)) next
 steps_refused first last moment opener next v piece fault at stands going lock bears whole settings given served stopped unlocked = record {
   heard = Nothing;
   hears = inl (none_asked v piece going (lock.unheard going) (ap value_of whole));
@@ -73,9 +73,9 @@ steps_refused first last moment opener next v piece fault at stands going lock b
 }
 
 -- memory ran out, and nothing is heard
-pub steps_short : (first last : ManagerNow) (moment : ℕ) (opener next : Opener) (v : OpeningValue) (piece : List ℕ) → Stands opener v → v.stopped ≡ false → IsLocked opener v → BearsHeard first last moment None
+pub steps_short : (first last : ManagerNow) (moment : ℕ) (opener next : Opener) (v : OpeningValue) (piece : List ℕ) → Stands opener v → v.stopped ≡ false → OpenerIsLocked opener v → BearsHeard first last moment None
     → next.settings ≡ opener.settings → next.given ≡ opener.given → next.served ≡ opener.served → next.stopped ≡ true → next.unlocked ≡ None
-    → Steps first last moment v piece (Err errors.Memory) next
+    → OpenerSteps first last moment v piece (Err errors.Memory) next
 steps_short first last moment opener next v piece stands going lock bears settings given served stopped unlocked = record {
   heard = Nothing;
   hears = inr refl;
@@ -87,25 +87,25 @@ steps_short first last moment opener next v piece stands going lock bears settin
 abbrev reading_of : OpeningValue → Session
 reading_of v = record { settings = v.settings; taken = v.taken; stopped = false }
 
-unread_by : (first last : ManagerNow) (moment : ℕ) (opener next : Opener) (v : OpeningValue) (piece : List ℕ) (fault : Fault) (r : Reading Head) → header v.settings (start (v.taken ++ piece)) ≡ r
-    → answer_to (reading_of v) piece r ≡ Err (fields.Fault fault) → Stands opener v → v.stopped ≡ false → IsLocked opener v → BearsHeard first last moment None
+unread_by : (first last : ManagerNow) (moment : ℕ) (opener next : Opener) (v : OpeningValue) (piece : List ℕ) (fault : Fault) (r : Reading HeaderFields) → header v.settings (start (v.taken ++ piece)) ≡ r
+    → answer_to (reading_of v) piece r ≡ Err (fields.Fault fault) → Stands opener v → v.stopped ≡ false → OpenerIsLocked opener v → BearsHeard first last moment None
     → next.settings ≡ opener.settings → next.given ≡ opener.given → next.served ≡ opener.served → next.stopped ≡ true → next.unlocked ≡ None
-    → Steps first last moment v piece (Err (errors.Fault fault)) next
+    → OpenerSteps first last moment v piece (Err (errors.Fault fault)) next
 unread_by first last moment opener next v piece fault (Read parts end) e answer stands going lock bears settings given served stopped unlocked = absurd cc
 unread_by first last moment opener next v piece fault Wanting e answer stands going lock bears settings given served stopped unlocked = absurd cc
 unread_by first last moment opener next v piece fault (Refused other at) e answer stands going lock bears settings given served stopped unlocked =
     let same : other ≡ fault = cc in
-    subst (λ (f : Fault). Steps first last moment v piece (Err (errors.Fault f)) next) same (steps_refused first last moment opener next v piece other at stands going lock bears e settings given served stopped unlocked)
+    subst (λ (f : Fault). OpenerSteps first last moment v piece (Err (errors.Fault f)) next) same (steps_refused first last moment opener next v piece other at stands going lock bears e settings given served stopped unlocked)
 
-not_stopped : (v : OpeningValue) (piece : List ℕ) (r : Reading Head) → answer_to (reading_of v) piece r ≡ Err fields.Stopped → ⊥
+not_stopped : (v : OpeningValue) (piece : List ℕ) (r : Reading HeaderFields) → answer_to (reading_of v) piece r ≡ Err fields.Stopped → ⊥
 not_stopped v piece (Read parts end) e = cc
 not_stopped v piece (Refused fault at) e = cc
 not_stopped v piece Wanting e = cc
 
 pub steps_unread : (first last : ManagerNow) (moment : ℕ) (opener next : Opener) (v : OpeningValue) (piece : List ℕ) (error : FieldError) → HeaderAnswers (reading_of v) piece (Err error)
-    → Stands opener v → v.stopped ≡ false → IsLocked opener v → BearsHeard first last moment None
+    → Stands opener v → v.stopped ≡ false → OpenerIsLocked opener v → BearsHeard first last moment None
     → next.settings ≡ opener.settings → next.given ≡ opener.given → next.served ≡ opener.served → next.stopped ≡ true → next.unlocked ≡ None
-    → Steps first last moment v piece (Err (unread_as error)) next
+    → OpenerSteps first last moment v piece (Err (unread_as error)) next
 steps_unread first last moment opener next v piece (fields.Fault fault) answer stands going lock bears settings given served stopped unlocked =
     unread_by first last moment opener next v piece fault (header v.settings (start (v.taken ++ piece))) refl answer stands going lock bears settings given served stopped unlocked
 steps_unread first last moment opener next v piece fields.Memory answer stands going lock bears settings given served stopped unlocked =
@@ -115,13 +115,13 @@ steps_unread first last moment opener next v piece fields.Stopped answer stands 
 
 -- ---- no header is whole yet
 
-pub steps_waiting : (first last : ManagerNow) (moment : ℕ) (opener next : Opener) (v : OpeningValue) (piece : List ℕ) (used : ℕ) → Stands opener v → v.stopped ≡ false → IsLocked opener v → BearsHeard first last moment None
+pub steps_waiting : (first last : ManagerNow) (moment : ℕ) (opener next : Opener) (v : OpeningValue) (piece : List ℕ) (used : ℕ) → Stands opener v → v.stopped ≡ false → OpenerIsLocked opener v → BearsHeard first last moment None
     → used ≡ length piece → header v.settings (start (v.taken ++ piece)) ≡ Wanting → header v.settings (start (v.taken ++ take used piece)) ≡ Wanting
     → Reads next.reader (record { settings = v.settings; taken = v.taken ++ take used piece; stopped = false })
     → next.settings ≡ opener.settings → next.given ≡ opener.given → next.served ≡ opener.served → next.stopped ≡ false → next.unlocked ≡ None
-    → Steps first last moment v piece (Ok used) next
+    → OpenerSteps first last moment v piece (Ok used) next
 steps_waiting first last moment opener next v piece used stands going lock bears all whole front reads settings given served stopped unlocked =
-    let w : OpeningValue = stepped v piece Nothing (Ok used) in
+    let w : OpeningValue = opening_stepped v piece Nothing (Ok used) in
     let now : judged_now v ≡ locked Going = judged_wanting v.taken v.settings (answer_kept v.answer) lock.wanting in
     let later : judged_with v piece used ≡ locked Going = judged_wanting (v.taken ++ take used piece) v.settings (answer_kept v.answer) front in
     record {
@@ -134,7 +134,7 @@ steps_waiting first last moment opener next v piece used stands going lock bears
         given = given ∙ stands.given;
         served = served ∙ stands.served;
         stopped = stopped ∙ sym going;
-        out = ap out_of unlocked ∙ sym (ap (λ (j : Judged). added j (judged_with v piece used)) now ∙ ap (λ (j : Judged). added (locked Going) j) later);
+        out = ap opener_out unlocked ∙ sym (ap (λ (j : Judged). added_content j (judged_with v piece used)) now ∙ ap (λ (j : Judged). added_content (locked Going) j) later);
         at = subst (λ (o : Option Unlocked). StandsAt next w o) (sym unlocked) (record { reads = λ e. reads; unheard = λ e. lock.unheard going; wanting = front });
       };
     }
@@ -144,10 +144,10 @@ steps_waiting first last moment opener next v piece used stands going lock bears
 
 -- ---- the manager is asked
 
-pub steps_unanswered : (first last : ManagerNow) (moment : ℕ) (opener next : Opener) (v : OpeningValue) (piece : List ℕ) (used : ℕ) (h : HeaderValue) (error : UnlockError) → Stands opener v → v.stopped ≡ false → IsLocked opener v
+pub steps_unanswered : (first last : ManagerNow) (moment : ℕ) (opener next : Opener) (v : OpeningValue) (piece : List ℕ) (used : ℕ) (h : HeaderValue) (error : UnlockError) → Stands opener v → v.stopped ≡ false → OpenerIsLocked opener v
     → Shown v piece used h → Unanswered first last moment (request_of v.given h) error
     → next.settings ≡ opener.settings → next.given ≡ opener.given → next.served ≡ opener.served → next.stopped ≡ true → next.unlocked ≡ None
-    → Steps first last moment v piece (Err (locked_as error)) next
+    → OpenerSteps first last moment v piece (Err (locked_as error)) next
 steps_unanswered first last moment opener next v piece used h (locks.Fault fault) stands going lock shown (finds, bears) settings given served stopped unlocked = record {
   heard = Named fault;
   hears = (h, shown_asked v piece used h going (lock.unheard going) shown, finds);
@@ -166,9 +166,9 @@ steps_unanswered first last moment opener next v piece used h locks.Memory stand
     steps_short first last moment opener next v piece stands going lock bears settings given served stopped unlocked
 
 pub steps_not_unlocked : (first last : ManagerNow) (moment : ℕ) (opener next : Opener) (v : OpeningValue) (piece : List ℕ) (used : ℕ) (h : HeaderValue) (m : DecMaterialsValue) (error : UnlockError) → Stands opener v → v.stopped ≡ false
-    → IsLocked opener v → Shown v piece used h → Answered first last moment (request_of v.given h) m → KeepsLock h m error
+    → OpenerIsLocked opener v → Shown v piece used h → Answered first last moment (request_of v.given h) m → KeepsLock h m error
     → next.settings ≡ opener.settings → next.given ≡ opener.given → next.served ≡ Some m.served → next.stopped ≡ true → next.unlocked ≡ None
-    → Steps first last moment v piece (Err (locked_as error)) next
+    → OpenerSteps first last moment v piece (Err (locked_as error)) next
 steps_not_unlocked first last moment opener next v piece used h m (locks.Fault fault) stands going lock shown answered bad settings given served stopped unlocked = record {
   heard = Found m;
   hears = (h, shown_asked v piece used h going (lock.unheard going) shown, answered.found);
@@ -213,20 +213,20 @@ begun_judged u v piece used h m limit same begun shown =
     ∙ ap (λ (units : List (List ℕ)). opens_as (said_as units Going)) (none_before u.body shown.place begun.first)
 
 found_answer : (v : OpeningValue) (piece : List ℕ) (m : DecMaterialsValue) (n : ℕ) → v.stopped ≡ false → reach (keeping v (Found m)) piece ≡ n
-    → (judged_with (keeping v (Found m)) piece n).verdict ≡ Going → step_answer v piece (Found m) ≡ Ok n
-unfolding step_answer
+    → (judged_with (keeping v (Found m)) piece n).verdict ≡ Going → opening_step_answer v piece (Found m) ≡ Ok n
+unfolding opening_step_answer
 found_answer v piece m n going is verdict =
     ap (λ (b : Bool). if b then Err errors.Stopped else answer_on v piece (Found m)) going
     ∙ ap (λ (k : ℕ). answer_at k (judged_with (keeping v (Found m)) piece k).verdict) is
     ∙ ap (answer_at n) verdict
 
 pub steps_opened : (first last : ManagerNow) (moment : ℕ) (opener next : Opener) (v : OpeningValue) (piece : List ℕ) (used : ℕ) (h : HeaderValue) (m : DecMaterialsValue) (u : Unlocked) → Stands opener v → v.stopped ≡ false
-    → IsLocked opener v → Shown v piece used h → used ≤ length piece → Answered first last moment (request_of v.given h) m → IsBegun u h opener.settings.max_unit m
+    → OpenerIsLocked opener v → Shown v piece used h → used ≤ length piece → Answered first last moment (request_of v.given h) m → IsBegun u h opener.settings.max_unit m
     → next.settings ≡ opener.settings → next.given ≡ opener.given → next.served ≡ Some m.served → next.stopped ≡ false → next.unlocked ≡ Some u
-    → Steps first last moment v piece (Ok used) next
+    → OpenerSteps first last moment v piece (Ok used) next
 steps_opened first last moment opener next v piece used h m u stands going lock shown within answered begun settings given served stopped unlocked =
     let w : OpeningValue = keeping v (Found m) in
-    let after : OpeningValue = stepped v piece (Found m) (Ok used) in
+    let after : OpeningValue = opening_stepped v piece (Found m) (Ok used) in
     let limit : opener.settings.max_unit ≡ v.settings.max_unit = ap (λ (s : Rattle.header_codec.specs.declared.settings.Settings.Settings). s.max_unit) stands.settings in
     let later : judged_with w piece used ≡ opened_as (said_as [] Going) = begun_judged u v piece used h m opener.settings.max_unit limit begun shown in
     let now : judged_now w ≡ locked Going = judged_wanting v.taken v.settings (Unlocks m.context m.only m.key) lock.wanting in
@@ -246,7 +246,7 @@ steps_opened first last moment opener next v piece used h m u stands going lock 
         given = given ∙ stands.given;
         served = served;
         stopped = stopped ∙ sym going;
-        out = ap out_of unlocked ∙ begun.out ∙ sym (ap (λ (j : Judged). added j (judged_with w piece used)) before ∙ ap (λ (j : Judged). added (locked Going) j) later);
+        out = ap opener_out unlocked ∙ begun.out ∙ sym (ap (λ (j : Judged). added_content j (judged_with w piece used)) before ∙ ap (λ (j : Judged). added_content (locked Going) j) later);
         at = subst (λ (o : Option Unlocked). StandsAt next after o) (sym unlocked)
             (record {
               parts = shown.parts;
@@ -273,7 +273,7 @@ abbrev failed : OpenError → Result ℕ OpenError
 failed error = Err error
 
 pub steps_failed : (first last : ManagerNow) (moment : ℕ) (next : Opener) (v : OpeningValue) (piece : List ℕ) (r : Result ℕ OpenError) (error : OpenError) → IsErrAnd r (λ other. other ≡ error)
-    → Steps first last moment v piece (Err error) next → Steps first last moment v piece r next
+    → OpenerSteps first last moment v piece (Err error) next → OpenerSteps first last moment v piece r next
 steps_failed first last moment next v piece r error is steps =
     let p = err_from_is_err_and r is in
-    subst (λ (s : Result ℕ OpenError). Steps first last moment v piece s next) (sym (p.1 ∙ ap failed p.2)) steps
+    subst (λ (s : Result ℕ OpenError). OpenerSteps first last moment v piece s next) (sym (p.1 ∙ ap failed p.2)) steps

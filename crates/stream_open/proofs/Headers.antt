@@ -12,7 +12,7 @@ use Rattle.header_codec.specs.declared.session.HeaderStep.{HeaderStep}
 use Rattle.header_codec.specs.declared.settings.Settings.{Settings}
 use Rattle.header_codec.specs.Header.{HeaderValue}
 use Rattle.header_codec.specs.Session.{answer, answer_to}
-use Rattle.header_codec.specs.Table.{Head, header, BeginsWith}
+use Rattle.header_codec.specs.Table.{HeaderFields, header, BeginsWith}
 use Rattle.header_codec.proofs.Order.{IsSequential-header}
 use Rattle.keyring_trait.specs.Materials.{DecMaterialsValue}
 use Rattle.keyring_trait.specs.Unlocking.{Unlocking}
@@ -24,21 +24,21 @@ use Rattle.message_format.proofs.Judging.{judged_wanting, judged_refused, judged
 use Rattle.message_format.proofs.WrittenHeads.{header_found}
 use Rattle.stream_open.specs.declared.errors.OpenError.TheVariants as errors
 use Rattle.stream_open.specs.Asking.{Nothing, Found, Named, Failed}
-use Rattle.stream_open.specs.Session.{OpeningValue, answer_kept, judged_now, judged_with, header_asked, asked_header, keeping, is_faulty, is_stop, reach, answer_at, answer_on, step_answer, MayRunOut}
+use Rattle.stream_open.specs.Session.{OpeningValue, answer_kept, judged_now, judged_with, header_asked, asked_header, keeping, is_faulty, is_stop, reach, answer_at, answer_on, opening_step_answer, MayRunOut}
 use Rattle.stream_open.proofs.Ends.{reach_ends}
 
 -- ---- a front of the bytes
 
 -- A front of the bytes is read as all of them are, or has no whole header yet.
-pub data Front (whole front : Reading Head) : Type 0 where
+pub data Front (whole front : Reading HeaderFields) : Type 0 where
   Early : front ≡ Wanting → Front whole front
-  Same : (parts : Head) (p q : Place) → front ≡ Read parts p → whole ≡ Read parts q → q.at ≡ p.at → Front whole front
+  Same : (parts : HeaderFields) (p q : Place) → front ≡ Read parts p → whole ≡ Read parts q → q.at ≡ p.at → Front whole front
   SameFault : (fault : Fault) (at : ℕ) → front ≡ Refused fault at → whole ≡ Refused fault at → Front whole front
 
 pub front_whole : (taken piece : List ℕ) (k : ℕ) → taken ++ take k piece ++ drop k piece ≡ taken ++ piece
 front_whole taken piece k = append_assoc taken (take k piece) (drop k piece) ∙ ap (λ (l : List ℕ). taken ++ l) (take-append-drop k piece)
 
-front_by : (settings : Settings) (taken piece : List ℕ) (k : ℕ) (r : Reading Head) → header settings (start (taken ++ take k piece)) ≡ r
+front_by : (settings : Settings) (taken piece : List ℕ) (k : ℕ) (r : Reading HeaderFields) → header settings (start (taken ++ take k piece)) ≡ r
     → Front (header settings (start (taken ++ piece))) (header settings (start (taken ++ take k piece)))
 front_by settings taken piece k (Read parts p) e =
     Same parts p (followed p (drop k piece)) e
@@ -102,7 +102,7 @@ going_on v w piece fault e = ap (answer_at (reach w piece)) e
 
 -- ---- a header that has a fault
 
-abbrev refused_head : Fault → ℕ → Reading Head
+abbrev refused_head : Fault → ℕ → Reading HeaderFields
 refused_head fault at = Refused fault at
 
 refused_front : (w : OpeningValue) (piece : List ℕ) (fault : Fault) (at : ℕ) → header w.settings (start (w.taken ++ piece)) ≡ Refused fault at → (k : ℕ)
@@ -122,8 +122,8 @@ refused_front w piece fault at whole k =
     same_fault other there e = cc
 
 pub refused_answer : (v : OpeningValue) (piece : List ℕ) (fault : Fault) (at : ℕ) → v.stopped ≡ false → header v.settings (start v.taken) ≡ Wanting
-    → header v.settings (start (v.taken ++ piece)) ≡ Refused fault at → step_answer v piece Nothing ≡ Err (errors.Fault fault)
-unfolding step_answer
+    → header v.settings (start (v.taken ++ piece)) ≡ Refused fault at → opening_step_answer v piece Nothing ≡ Err (errors.Fault fault)
+unfolding opening_step_answer
 refused_answer v piece fault at going now whole =
     ap (λ (b : Bool). if b then Err errors.Stopped else answer_on v piece Nothing) going
     ∙ going_on v v piece fault (ends_faulty v piece fault now (λ e. not_wanting (sym whole ∙ e)) (refused_front v piece fault at whole))
@@ -134,8 +134,8 @@ refused_answer v piece fault at going now whole =
 -- ---- no whole header yet
 
 pub wanting_answer : (v : OpeningValue) (piece : List ℕ) → v.stopped ≡ false → header v.settings (start v.taken) ≡ Wanting → header v.settings (start (v.taken ++ piece)) ≡ Wanting
-    → step_answer v piece Nothing ≡ Ok (length piece)
-unfolding step_answer
+    → opening_step_answer v piece Nothing ≡ Ok (length piece)
+unfolding opening_step_answer
 wanting_answer v piece going now whole =
     let all = all_used v piece now whole in
     ap (λ (b : Bool). if b then Err errors.Stopped else answer_on v piece Nothing) going
@@ -152,7 +152,7 @@ none_asked v piece going unheard none =
 
 -- what stands at the front of the piece, when the header ends there
 pub record Shown (v : OpeningValue) (piece : List ℕ) (used : ℕ) (h : HeaderValue) : Type 0 where
-  pub parts : Head
+  pub parts : HeaderFields
   pub place : Place
   pub reads : header v.settings (start (v.taken ++ take used piece)) ≡ Read parts place
   pub is : header_of (v.taken ++ take used piece) parts ≡ h
@@ -182,7 +182,7 @@ pub shown_asked : (v : OpeningValue) (piece : List ℕ) (used : ℕ) (h : Header
 shown_asked v piece used h going unheard s =
     ap (λ (b : Bool). if b then None else header_asked v.answer v.settings (v.taken ++ piece)) going
     ∙ ap (λ (o : Option Unlocking). header_asked o v.settings (v.taken ++ piece)) unheard
-    ∙ ap (λ (r : Reading Head). option_map (header_of (v.taken ++ piece)) (value_of r)) s.whole
+    ∙ ap (λ (r : Reading HeaderFields). option_map (header_of (v.taken ++ piece)) (value_of r)) s.whole
     ∙ ap (λ (g : HeaderValue). some_of g) s.same
   where
     some_of : HeaderValue → Option HeaderValue
@@ -214,10 +214,10 @@ shown_front w piece used k h fault s refuses =
       | SameFault other at is with_all ↦ absurd (let no : Refused other at ≡ Read s.parts (followed s.place (drop used piece)) = sym with_all ∙ s.whole in cc)
     ]
   where
-    same_read : (x y : Head) (p q : Place) → Read x p ≡ Read y q → x ≡ y
+    same_read : (x y : HeaderFields) (p q : Place) → Read x p ≡ Read y q → x ≡ y
     same_read x y p q e = cc
 
-read_not_wanting : (r : Reading Head) (parts : Head) (p : Place) → r ≡ Read parts p → r ≡ Wanting → ⊥
+read_not_wanting : (r : Reading HeaderFields) (parts : HeaderFields) (p : Place) → r ≡ Read parts p → r ≡ Wanting → ⊥
 read_not_wanting r parts p e f = let no : Read parts p ≡ Wanting = sym e ∙ f in cc
 
 shown_faulty : (w : OpeningValue) (piece : List ℕ) (used : ℕ) (h : HeaderValue) (fault : Fault) → header w.settings (start w.taken) ≡ Wanting → Shown w piece used h
@@ -241,8 +241,8 @@ kept_shown v w piece used h settings taken s = record {
 
 -- the manager named a fault
 pub named_answer : (v : OpeningValue) (piece : List ℕ) (used : ℕ) (h : HeaderValue) (fault : Fault) → v.stopped ≡ false → header v.settings (start v.taken) ≡ Wanting → Shown v piece used h
-    → step_answer v piece (Named fault) ≡ Err (errors.Fault fault)
-unfolding step_answer
+    → opening_step_answer v piece (Named fault) ≡ Err (errors.Fault fault)
+unfolding opening_step_answer
 named_answer v piece used h fault going now s =
     let w : OpeningValue = keeping v (Named fault) in
     ap (λ (b : Bool). if b then Err errors.Stopped else answer_on v piece (Named fault)) going
@@ -250,16 +250,16 @@ named_answer v piece used h fault going now s =
 
 -- the lock has a fault
 pub locked_answer : (v : OpeningValue) (piece : List ℕ) (used : ℕ) (h : HeaderValue) (m : DecMaterialsValue) (fault : Fault) → v.stopped ≡ false → header v.settings (start v.taken) ≡ Wanting → Shown v piece used h
-    → lock_fault h m.only m.key ≡ Some fault → step_answer v piece (Found m) ≡ Err (errors.Fault fault)
-unfolding step_answer
+    → lock_fault h m.only m.key ≡ Some fault → opening_step_answer v piece (Found m) ≡ Err (errors.Fault fault)
+unfolding opening_step_answer
 locked_answer v piece used h m fault going now s bad =
     let w : OpeningValue = keeping v (Found m) in
     ap (λ (b : Bool). if b then Err errors.Stopped else answer_on v piece (Found m)) going
     ∙ going_on v w piece fault (shown_faulty w piece used h fault now (kept_shown v w piece used h refl refl s)
     (λ p. judged_locked v.settings h p m.context m.only m.key fault bad))
 
-pub failed_answer : (v : OpeningValue) (piece : List ℕ) → v.stopped ≡ false → step_answer v piece Failed ≡ Err errors.KeyringFault
-unfolding step_answer
+pub failed_answer : (v : OpeningValue) (piece : List ℕ) → v.stopped ≡ false → opening_step_answer v piece Failed ≡ Err errors.KeyringFault
+unfolding opening_step_answer
 failed_answer v piece going = ap (λ (b : Bool). if b then Err errors.Stopped else answer_on v piece Failed) going
 
 -- memory may run out before the header is unlocked
@@ -279,7 +279,7 @@ same_step : (x y : HeaderStep) → ok_step x ≡ ok_step y → x ≡ y
 same_step x y e = cc
 
 -- the reader uses bytes of the piece alone
-used_of : (taken piece : List ℕ) (settings : Settings) (step : HeaderStep) (r : Reading Head) → header settings (start (taken ++ piece)) ≡ r
+used_of : (taken piece : List ℕ) (settings : Settings) (step : HeaderStep) (r : Reading HeaderFields) → header settings (start (taken ++ piece)) ≡ r
     → answer_to (record { settings = settings; taken = taken; stopped = false }) piece r ≡ Ok step → step.used ≤ length piece
 used_of taken piece settings step (Read parts end) e answer =
     let is : end.at - length taken ≡ step.used = ap (λ (s : HeaderStep). s.used) (same_step (record { used = end.at - length taken; ready = true }) step answer) in
@@ -298,7 +298,7 @@ pub record NotShown (taken piece : List ℕ) (settings : Settings) (step : Heade
   pub all : step.used ≡ length piece
   pub whole : header settings (start (taken ++ piece)) ≡ Wanting
 
-not_shown_by : (taken piece : List ℕ) (settings : Settings) (step : HeaderStep) (r : Reading Head) → header settings (start (taken ++ piece)) ≡ r
+not_shown_by : (taken piece : List ℕ) (settings : Settings) (step : HeaderStep) (r : Reading HeaderFields) → header settings (start (taken ++ piece)) ≡ r
     → answer_to (record { settings = settings; taken = taken; stopped = false }) piece r ≡ Ok step → header settings (start (taken ++ take step.used piece)) ≡ Wanting → NotShown taken piece settings step
 not_shown_by taken piece settings step (Read parts end) e answer front =
     let is : end.at - length taken ≡ step.used = ap (λ (s : HeaderStep). s.used) (same_step (record { used = end.at - length taken; ready = true }) step answer) in
@@ -329,7 +329,7 @@ short_front v piece used k h s within few =
       | SameFault fault at is with_all ↦ absurd (let no : Refused fault at ≡ Read s.parts (followed s.place (drop used piece)) = sym with_all ∙ s.whole in cc)
     ]
   where
-    same_at : (x y : Head) (p q : Place) → Read x p ≡ Read y q → p.at ≡ q.at
+    same_at : (x y : HeaderFields) (p q : Place) → Read x p ≡ Read y q → p.at ≡ q.at
     same_at x y p q e = let same : p ≡ q = cc in ap (λ (r : Place). r.at) same
 
 -- the step ends with the header, where it is judged so with its bytes

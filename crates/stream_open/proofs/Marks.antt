@@ -6,11 +6,11 @@ use Rattle.std.proofs.lemmas.List.{append-nil, length-append, take-append-drop, 
 use Rattle.esdk_fields.specs.declared.contents.Content.{Content}
 use Rattle.esdk_fields.specs.declared.contents.Content.TheVariants.{Framed}
 use Rattle.esdk_fields.specs.Place.{Place, start, past, cut}
-use Rattle.esdk_fields.specs.Reading.{Reading, Reader, Read, Refused, Wanting, value_of}
+use Rattle.esdk_fields.specs.Reading.{Reading, FieldReader, Read, Refused, Wanting, value_of}
 use Rattle.esdk_fields.specs.Sequential.{cut_reading}
 use Rattle.esdk_fields.proofs.Fronts.{value_from, wanting_before_value, left_is, end_stays}
 use Rattle.header_codec.specs.Header.{HeaderValue}
-use Rattle.header_codec.specs.Table.{Head, header, head, opening}
+use Rattle.header_codec.specs.Table.{HeaderFields, header, head, opening}
 use Rattle.header_codec.proofs.Order.{IsSequential-header}
 use Rattle.keyring_trait.specs.Unlocking.{Unlocks}
 use Rattle.frame_codec.specs.declared.unit_heads.Head.{Head as UnitKnown}
@@ -36,7 +36,7 @@ use Rattle.stream_open.specs.Body.{IsBehind, open_unit, unit_width, is_wanting}
 use Rattle.stream_open.specs.Feeding.{GoesOn}
 use Rattle.stream_open.specs.OpenUnit.{judged_front, IsLastMark, IsFewer, HoldsPart, HoldsLess, HoldsLessThanAUnit}
 use Rattle.stream_open.specs.Session.{OpeningValue, answer_kept, judged_now}
-use Rattle.stream_open.specs.Stands.{IsUnlocked}
+use Rattle.stream_open.specs.Stands.{OpenerIsUnlocked}
 use Rattle.frame_codec.specs.UnitBuffer.{opened_of}
 use Rattle.stream_open.proofs.Behind.{row_of, units_before, behind_units, said_as, judged_here, no_byte}
 use Rattle.stream_open.proofs.GoingOn.{Standing, InHeader, Behind, standing}
@@ -85,7 +85,7 @@ released_one (Read (Last text) next) e = absurd cc
 released_one (Refused fault at) e = absurd cc
 released_one Wanting e = absurd cc
 
-units_counted : (width : ℕ) (row : ℕ → Reader Piece) (p : Place) (k : ℕ) → ((j : ℕ) → j < k → is_more (slot width row p j) ≡ true) → length (units_before width row p k) ≡ k
+units_counted : (width : ℕ) (row : ℕ → FieldReader Piece) (p : Place) (k : ℕ) → ((j : ℕ) → j < k → is_more (slot width row p j) ≡ true) → length (units_before width row p k) ≡ k
 units_counted width row p zero good = refl
 units_counted width row p (suc k) good =
     let next : k + 1 ≡ suc k = omega arith in
@@ -99,7 +99,7 @@ units_counted width row p (suc k) good =
 
 -- a front that has all of the units before the open one
 module _ (body : Body) (p : Place) (behind : IsBehind body p) where
-  abbrev row : ℕ → Reader Piece
+  abbrev row : ℕ → FieldReader Piece
   row = (row_of body.content body.max_unit body.key body.message_id).row
 
   abbrev width : ℕ
@@ -187,7 +187,7 @@ abbrev opens_as : JudgedBody → Judged
 opens_as j = opened_as j
 
 -- a front that has the header with its tag
-front_opened : (u : Unlocked) (v : OpeningValue) (n : ℕ) → (at : IsUnlocked u v) → at.place.at ≤ n
+front_opened : (u : Unlocked) (v : OpeningValue) (n : ℕ) → (at : OpenerIsUnlocked u v) → at.place.at ≤ n
     → judged_front v n ≡ opened_as (judged_body u.body.content u.body.max_unit u.body.key u.body.message_id (cut n at.place))
 front_opened u v n at whole =
     let reads : header v.settings (start (take n v.taken)) ≡ Read at.parts (cut n at.place) = value_from (header v.settings) v.taken at.parts at.place n (IsSequential-header v.settings) at.reads whole in
@@ -200,14 +200,14 @@ front_opened u v n at whole =
     ∙ ap opens_as (body_same u.body v (header_of v.taken at.parts) at.key (cut n at.place) at.body)
 
 -- a front that hasn't
-front_locked : (u : Unlocked) (v : OpeningValue) (n : ℕ) → (at : IsUnlocked u v) → n < at.place.at → judged_front v n ≡ locked Going
+front_locked : (u : Unlocked) (v : OpeningValue) (n : ℕ) → (at : OpenerIsUnlocked u v) → n < at.place.at → judged_front v n ≡ locked Going
 front_locked u v n at early =
     judged_wanting (take n v.taken) v.settings (answer_kept v.answer) (wanting_before_value (header v.settings) v.taken at.parts at.place n (IsSequential-header v.settings) at.reads early)
 
 -- ---- the last mark
 
 -- the header is unlocked, and the message isn't whole
-module _ (u : Unlocked) (v : OpeningValue) (at : IsUnlocked u v) (behind : IsBehind u.body at.place) where
+module _ (u : Unlocked) (v : OpeningValue) (at : OpenerIsUnlocked u v) (behind : IsBehind u.body at.place) where
   abbrev mark : ℕ
   mark = at.place.at + (u.body.number - 1) * unit_width u.body.content
 
@@ -263,7 +263,7 @@ module _ (u : Unlocked) (v : OpeningValue) (at : IsUnlocked u v) (behind : IsBeh
     mark = mark;
     last = last_mark;
     locked = λ e. absurd (true_false (sym (ap (λ (j : Judged). j.unlocked) (now_said u v at behind)) ∙ e));
-    unlocked = λ e. (at.parts, (ap (λ (r : Reading Head). value_of r) at.reads, subst (HoldsPart v at.parts) (sym since) holds_part));
+    unlocked = λ e. (at.parts, (ap (λ (r : Reading HeaderFields). value_of r) at.reads, subst (HoldsPart v at.parts) (sym since) holds_part));
   }
     where
       true_false : true ≡ false → ⊥
@@ -281,7 +281,7 @@ in_header v now =
     record {
       mark = 0;
       last = record { within = omega arith; there = ap marks (no_header v) ∙ sym (ap marks is); first = λ k h. absurd (omega (arith, h)) };
-      locked = λ e. (refl, ap (λ (r : Reading Head). value_of r) now);
+      locked = λ e. (refl, ap (λ (r : Reading HeaderFields). value_of r) now);
       unlocked = λ e. absurd (false_true (sym (ap (λ (j : Judged). j.unlocked) is) ∙ e));
     }
   where
@@ -290,7 +290,7 @@ in_header v now =
 
 -- ---- the law
 
-going_open : (u : Unlocked) (v : OpeningValue) (b : Bool) → IsUnlocked u v → (judged_now v).verdict ≡ Going → u.body.ended ≡ b → u.body.ended ≡ false
+going_open : (u : Unlocked) (v : OpeningValue) (b : Bool) → OpenerIsUnlocked u v → (judged_now v).verdict ≡ Going → u.body.ended ≡ b → u.body.ended ≡ false
 going_open u v true at going e = absurd (whole_going (sym (ap (λ (j : Judged). j.verdict) (judged_unlocked u v at) ∙ at.behind.verdict ∙ ap (λ (b : Bool). if b then Whole else Going) e) ∙ going))
   where
     whole_going : Whole ≡ Going → ⊥

@@ -8,7 +8,7 @@ use Rattle.esdk_base.specs.declared.receiver.FeedError.TheVariants as feeds
 use Rattle.context_codec.specs.Context.{KeyValue}
 use Rattle.header_codec.specs.declared.settings.Settings.{Settings}
 use Rattle.header_codec.specs.Header.{HeaderValue}
-use Rattle.header_codec.specs.Table.{Head, head, header_fault}
+use Rattle.header_codec.specs.Table.{HeaderFields, head, header_fault}
 use Rattle.keyring_trait.specs.declared.served.Served.{Served}
 use Rattle.keyring_trait.specs.Manager.{ManagerNow}
 use Rattle.keyring_trait.specs.Saying.{said_last}
@@ -18,10 +18,10 @@ use Rattle.stream_open.specs.declared.errors.OpenError.{OpenError}
 use Rattle.stream_open.specs.declared.errors.OpenError.TheVariants as errors
 use Rattle.stream_open.specs.declared.session.Opener.{Opener}
 use Rattle.stream_open.specs.Asking.{Heard, Nothing, Found, Named, Failed, IsHeard}
-use Rattle.stream_open.specs.Feeding.{FindsFault, GoesOn, IsFed, IsFedExactly, judged_all}
-use Rattle.stream_open.specs.Receiving.{Breaks, FedShort, FedTo, FeedsPiece, FedUntil, FedWhole, HasFault, StaysStopped, broken_off}
-use Rattle.stream_open.specs.Session.{OpeningValue, answer_kept, asked_header, judged_now, keeping, step_answer, stepped}
-use Rattle.stream_open.specs.Stands.{Stands, Steps, quiet}
+use Rattle.stream_open.specs.Feeding.{FindsFault, GoesOn, OpenerIsFed, IsFedExactly, judged_all}
+use Rattle.stream_open.specs.Receiving.{Breaks, FedShort, FedTo, FeedsOpenerPiece, FedUntil, FedWhole, PieceHasFault, StaysStopped, broken_off}
+use Rattle.stream_open.specs.Session.{OpeningValue, answer_kept, asked_header, judged_now, keeping, opening_step_answer, opening_stepped}
+use Rattle.stream_open.specs.Stands.{Stands, OpenerSteps, quiet}
 use Rattle.stream_open.proofs.AnyCut.{unasked, unread_front}
 use Rattle.stream_open.proofs.Ends.{ends_exactly}
 use Rattle.stream_open.proofs.FedPieces.{Joins, asked_head, asked_kept, asked_wants, fed_as_one, heard_as, joined, joins}
@@ -75,7 +75,7 @@ stopped_memory e = cc
 -- ---- a step that used bytes
 
 -- a header that is asked about is whole with the bytes used
-asked_by : (w : OpeningValue) (rest : List ℕ) (n : ℕ) (later : Heard) (o : Option HeaderValue) (a : Option Unlocking) → GoesOn w → step_answer w rest later ≡ Ok n
+asked_by : (w : OpeningValue) (rest : List ℕ) (n : ℕ) (later : Heard) (o : Option HeaderValue) (a : Option Unlocking) → GoesOn w → opening_step_answer w rest later ≡ Ok n
     → asked_header w rest ≡ o → w.answer ≡ a → asked_header w (take n rest) ≡ o
 asked_by w rest n later (Some h) a goes answers e is =
     asked_head w (take n rest) goes (asked_wants w rest h e)
@@ -83,26 +83,26 @@ asked_by w rest n later (Some h) a goes answers e is =
 asked_by w rest n later None (Some a) goes answers e is = asked_kept w (take n rest) a is
 asked_by w rest n later None None goes answers e is =
     asked_head w (take n rest) goes is
-    ∙ ap (λ (o : Option Head). option_map (header_of (w.taken ++ take n rest)) o)
+    ∙ ap (λ (o : Option HeaderFields). option_map (header_of (w.taken ++ take n rest)) o)
     (unread_front w.settings w.taken rest n (unasked w.stopped w.answer w.settings (w.taken ++ rest) goes.going is e))
 
 module _ {M : Type 0} (state : M → ManagerNow) (now : ℕ) (v : OpeningValue) (first given : List ℕ) (old mid new : M) (opener next : Opener) (rest : List ℕ)
     (fed : FedTo state now v first given old mid opener) where
-  exactly : (answer : Result ℕ OpenError) (s : Steps (state mid) (state new) now fed.session rest answer next) → (answer ≡ Err errors.Memory → ⊥) → IsFedExactly fed.session rest s.heard
+  exactly : (answer : Result ℕ OpenError) (s : OpenerSteps (state mid) (state new) now fed.session rest answer next) → (answer ≡ Err errors.Memory → ⊥) → IsFedExactly fed.session rest s.heard
   exactly answer s known =
       let w = fed.session in
       feeds_exactly w rest s.heard fed.feeds.goes
       (may_hear (said_last (state mid) (state new)) now w.given (asked_header w rest) ⊥ s.heard
       (sure (said_last (state mid) (state new)) now w.given (asked_header w rest) (answer ≡ Err errors.Memory) s.heard known s.hears))
 
-  pub step_fed : (n : ℕ) (s : Steps (state mid) (state new) now fed.session rest (Ok n) next) → 1 ≤ length rest → IsFed fed.session rest s.heard n
+  pub step_fed : (n : ℕ) (s : OpenerSteps (state mid) (state new) now fed.session rest (Ok n) next) → 1 ≤ length rest → OpenerIsFed fed.session rest s.heard n
   step_fed n s some = (exactly (Ok n) s (used_memory n)).used n some s.answers
 
-  pub step_on : (n : ℕ) (s : Steps (state mid) (state new) now fed.session rest (Ok n) next) → (asked_header fed.session rest ≡ None → new ≡ mid) → 1 ≤ length rest
-      → FedTo state now v (first ++ take n rest) (given ++ (stepped fed.session rest s.heard (Ok n)).out) old new next
+  pub step_on : (n : ℕ) (s : OpenerSteps (state mid) (state new) now fed.session rest (Ok n) next) → (asked_header fed.session rest ≡ None → new ≡ mid) → 1 ≤ length rest
+      → FedTo state now v (first ++ take n rest) (given ++ (opening_stepped fed.session rest s.heard (Ok n)).out) old new next
   step_on n s stays some =
       let w = fed.session in
-      let z : OpeningValue = stepped w rest s.heard (Ok n) in
+      let z : OpeningValue = opening_stepped w rest s.heard (Ok n) in
       let is = step_fed n s some in
       let front : asked_header w (take n rest) ≡ asked_header w rest = asked_by w rest n s.heard (asked_header w rest) w.answer fed.feeds.goes s.answers refl refl in
       let hears : IsHeard (said_last (state mid) (state new)) now w.given (asked_header w rest) ⊥ s.heard =
@@ -124,8 +124,8 @@ module _ {M : Type 0} (state : M → ManagerNow) (now : ℕ) (v : OpeningValue) 
       }
 
   -- the session is the one that the step left
-  pub session_on : (n : ℕ) (s : Steps (state mid) (state new) now fed.session rest (Ok n) next) (stays : asked_header fed.session rest ≡ None → new ≡ mid) (some : 1 ≤ length rest)
-      → (step_on n s stays some).session ≡ stepped fed.session rest s.heard (Ok n)
+  pub session_on : (n : ℕ) (s : OpenerSteps (state mid) (state new) now fed.session rest (Ok n) next) (stays : asked_header fed.session rest ≡ None → new ≡ mid) (some : 1 ≤ length rest)
+      → (step_on n s stays some).session ≡ opening_stepped fed.session rest s.heard (Ok n)
   unfolding step_on
   session_on n s stays some = refl
 
@@ -147,7 +147,7 @@ module _ {M : Type 0} (state : M → ManagerNow) (now : ℕ) (v : OpeningValue) 
       ∙ ap (λ (b : List ℕ). judged_all v b j.heard) (append-nil (first ++ rest))
 
   faulty : (later : Heard) (short : Type 0) (fault : Fault) (j : Joins state now v (first ++ rest) short old new fed.session later (asked_header fed.session rest))
-      → FindsFault fed.session rest later fault → HasFault v (first ++ rest) j.heard given fault
+      → FindsFault fed.session rest later fault → PieceHasFault v (first ++ rest) j.heard given fault
   faulty later short fault j finds =
       let w = fed.session in
       let same = same_piece later short j in
@@ -167,7 +167,7 @@ module _ {M : Type 0} (state : M → ManagerNow) (now : ℕ) (v : OpeningValue) 
       behind [] ys e = e
       behind (x ∷ xs) ys e = absurd cc
 
-  breaks : (error : OpenError) (s : Steps (state mid) (state new) now fed.session rest (Err error) next)
+  breaks : (error : OpenError) (s : OpenerSteps (state mid) (state new) now fed.session rest (Err error) next)
       (j : Joins state now v (first ++ rest) (error ≡ errors.Memory) old new fed.session s.heard (asked_header fed.session rest))
       → Breaks v (first ++ rest) j.heard given fed.session error
   breaks (errors.Fault fault) s j =
@@ -222,8 +222,8 @@ module _ {M R E : Type 0} (state : M → ManagerNow) (takes : R → R → List �
     (opener next : Opener) (rest : List ℕ) (within : count ≤ length piece) (behind : take count piece ++ rest ≡ piece)
     (whole : FedWhole state takes now v (take count piece) old mid before during opener) where
   -- one step more
-  pub whole_on : (n : ℕ) (s : Steps (state mid) (state new) now whole.fed.session rest (Ok n) next) → (asked_header whole.fed.session rest ≡ None → new ≡ mid) → 1 ≤ length rest
-      → (out : List ℕ) → out ≡ (stepped whole.fed.session rest s.heard (Ok n)).out → take count piece ++ take n rest ≡ take (count + n) piece
+  pub whole_on : (n : ℕ) (s : OpenerSteps (state mid) (state new) now whole.fed.session rest (Ok n) next) → (asked_header whole.fed.session rest ≡ None → new ≡ mid) → 1 ≤ length rest
+      → (out : List ℕ) → out ≡ (opening_stepped whole.fed.session rest s.heard (Ok n)).out → take count piece ++ take n rest ≡ take (count + n) piece
       → takes during after out × (out ≡ [] → after ≡ during)
       → ((r s t : R) (xs ys : List ℕ) → takes r s xs → takes s t ys → takes r t (xs ++ ys))
       → FedWhole state takes now v (take (count + n) piece) old new before after next
@@ -232,14 +232,14 @@ module _ {M R E : Type 0} (state : M → ManagerNow) (takes : R → R → List �
       record {
         given = whole.given ++ out;
         fed = subst (λ (o : List ℕ). FedTo state now v (take (count + n) piece) (whole.given ++ o) old new next) (sym is)
-            (subst (λ (b : List ℕ). FedTo state now v b (whole.given ++ (stepped whole.fed.session rest s.heard (Ok n)).out) old new next) all on);
+            (subst (λ (b : List ℕ). FedTo state now v b (whole.given ++ (opening_stepped whole.fed.session rest s.heard (Ok n)).out) old new next) all on);
         taken = takes_more before during after whole.given out whole.taken takes_out;
         nothing = λ e. (let both = no_content whole.given out e in none both.1 ∙ whole.nothing both.0);
       }
 
   -- the receiver failed at what a step gave
-  pub until_on : (n : ℕ) (s : Steps (state mid) (state new) now whole.fed.session rest (Ok n) next) → (asked_header whole.fed.session rest ≡ None → new ≡ mid) → 1 ≤ length rest
-      → (out : List ℕ) (error : E) → out ≡ (stepped whole.fed.session rest s.heard (Ok n)).out → take count piece ++ take n rest ≡ take (count + n) piece → count + n ≤ length piece
+  pub until_on : (n : ℕ) (s : OpenerSteps (state mid) (state new) now whole.fed.session rest (Ok n) next) → (asked_header whole.fed.session rest ≡ None → new ≡ mid) → 1 ≤ length rest
+      → (out : List ℕ) (error : E) → out ≡ (opening_stepped whole.fed.session rest s.heard (Ok n)).out → take count piece ++ take n rest ≡ take (count + n) piece → count + n ≤ length piece
       → (1 ≤ length out) × fails during after out error
       → ((r s t : R) (xs ys : List ℕ) (error : E) → takes r s xs → fails s t ys error → fails r t (xs ++ ys) error)
       → FedUntil state fails now v piece error old new before after next
@@ -251,12 +251,12 @@ module _ {M R E : Type 0} (state : M → ManagerNow) (takes : R → R → List �
         given = whole.given ++ out;
         some = omega (arith, gave, length-append whole.given out);
         fed = subst (λ (o : List ℕ). FedTo state now v (take (count + n) piece) (whole.given ++ o) old new next) (sym is)
-            (subst (λ (b : List ℕ). FedTo state now v b (whole.given ++ (stepped whole.fed.session rest s.heard (Ok n)).out) old new next) all on);
+            (subst (λ (b : List ℕ). FedTo state now v b (whole.given ++ (opening_stepped whole.fed.session rest s.heard (Ok n)).out) old new next) all on);
         failed = fails_behind before during after whole.given out error whole.taken fails_out;
       }
 
   -- the session ended with an error
-  short_at : (error : OpenError) (s : Steps (state mid) (state new) now whole.fed.session rest (Err error) next) → (asked_header whole.fed.session rest ≡ None → new ≡ mid)
+  short_at : (error : OpenError) (s : OpenerSteps (state mid) (state new) now whole.fed.session rest (Err error) next) → (asked_header whole.fed.session rest ≡ None → new ≡ mid)
       → FedShort state takes now v piece error old new before during next
   short_at error s stays =
       let w = whole.fed.session in
@@ -286,8 +286,8 @@ module _ {M R E : Type 0} (state : M → ManagerNow) (takes : R → R → List �
         nothing = whole.nothing;
       }
 
-  pub ends_at : (error : OpenError) (s : Steps (state mid) (state new) now whole.fed.session rest (Err error) next) → (asked_header whole.fed.session rest ≡ None → new ≡ mid)
-      → FeedsPiece {T = Unit {0}} state takes fails now v piece old new before during next (Err (feeds.Machine error))
+  pub ends_at : (error : OpenError) (s : OpenerSteps (state mid) (state new) now whole.fed.session rest (Err error) next) → (asked_header whole.fed.session rest ≡ None → new ≡ mid)
+      → FeedsOpenerPiece {T = Unit {0}} state takes fails now v piece old new before during next (Err (feeds.Machine error))
   ends_at (errors.Fault fault) s stays = short_at (errors.Fault fault) s stays
   ends_at errors.KeyringFault s stays = short_at errors.KeyringFault s stays
   ends_at errors.Memory s stays = short_at errors.Memory s stays
@@ -298,7 +298,7 @@ none_asked_by v goes (Some a) is = asked_kept v [] a is
 none_asked_by v goes None is =
     asked_head v [] goes is
     ∙ ap (λ (b : List ℕ). option_map (header_of b) (head v.settings b)) (append-nil v.taken)
-    ∙ ap (λ (o : Option Head). option_map (header_of v.taken) o) (goes.unheard is)
+    ∙ ap (λ (o : Option HeaderFields). option_map (header_of v.taken) o) (goes.unheard is)
 
 -- about no bytes more no header is asked
 pub none_asked : (v : OpeningValue) → GoesOn v → asked_header v [] ≡ None

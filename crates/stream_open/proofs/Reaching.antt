@@ -7,7 +7,7 @@ use Rattle.std.proofs.lemmas.List.FromFn.{length-range_with_len, get_or-range_wi
 use Rattle.esdk_fields.specs.Reading.{Reading, Read, Refused, Wanting}
 use Rattle.frame_codec.specs.Unit.{Piece}
 use Rattle.stream_open.specs.declared.body.Body.{Body}
-use Rattle.stream_open.specs.Body.{is_wanting, open_unit, unit_reach}
+use Rattle.stream_open.specs.Body.{is_wanting, open_unit, reach_in_piece}
 
 -- A test holds of every number from 1 on below n, and doesn't hold of n, or n is the most.
 pub record Stops (test : ℕ → Bool) (most n : ℕ) : Type 0 where
@@ -76,8 +76,8 @@ pub record Reaches (body : Body) (piece : List ℕ) (n : ℕ) : Type 0 where
   pub before : (k : ℕ) → k < n → open_unit body (body.unit.held ++ take k piece) ≡ Wanting
   pub here : (n ≡ length piece) ⊎ (is_wanting (open_unit body (body.unit.held ++ take n piece)) ≡ false)
 
-pub reach_is : (body : Body) (piece : List ℕ) (n : ℕ) → Reaches body piece n → unit_reach body piece ≡ n
-unfolding unit_reach
+pub reach_is : (body : Body) (piece : List ℕ) (n : ℕ) → Reaches body piece n → reach_in_piece body piece ≡ n
+unfolding reach_in_piece
 reach_is body piece n r =
     stops_by (λ n. is_wanting (open_unit body (body.unit.held ++ take n piece))) (length piece) n (is_wanting (open_unit body (body.unit.held ++ take n piece))) refl
     (record { within = r.within; some = r.some; before = λ k h. ap is_wanting (r.before k h); here = r.here })
@@ -87,8 +87,8 @@ wants (Read piece next) e = absurd cc
 wants (Refused fault at) e = absurd cc
 wants Wanting e = refl
 
-pub reaches : (body : Body) (piece : List ℕ) → open_unit body (body.unit.held ++ take 0 piece) ≡ Wanting → Reaches body piece (unit_reach body piece)
-unfolding unit_reach
+pub reaches : (body : Body) (piece : List ℕ) → open_unit body (body.unit.held ++ take 0 piece) ≡ Wanting → Reaches body piece (reach_in_piece body piece)
+unfolding reach_in_piece
 reaches body piece none =
     let s = stops_first (λ n. is_wanting (open_unit body (body.unit.held ++ take n piece))) (length piece) (ap is_wanting none) in
     record { within = s.within; some = s.some; before = λ k h. wants (open_unit body (body.unit.held ++ take k piece)) (s.before k h); here = s.here }

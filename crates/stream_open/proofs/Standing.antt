@@ -15,8 +15,8 @@ use Rattle.stream_open.specs.declared.body.Body.{Body}
 use Rattle.stream_open.specs.declared.unlocked.Unlocked.{Unlocked}
 use Rattle.stream_open.specs.declared.session.Opener.{Opener}
 use Rattle.stream_open.specs.declared.errors.OpenError.TheVariants as errors
-use Rattle.stream_open.specs.Session.{OpeningValue, answer_kept, judged_now, is_end, end_of, finish_answer, finished, whole_in, only_in, whole_context, only_authenticated}
-use Rattle.stream_open.specs.Stands.{quiet, IsBodyOf, IsUnlocked, IsLocked, StandsAt, Stands, out_of}
+use Rattle.stream_open.specs.Session.{OpeningValue, answer_kept, judged_now, is_end, end_of_verdict, opening_finish_answer, opening_finished, whole_in, only_in, whole_context, only_authenticated}
+use Rattle.stream_open.specs.Stands.{quiet, IsBodyOf, OpenerIsUnlocked, OpenerIsLocked, StandsAt, Stands, opener_out}
 
 -- ---- how the bytes taken are judged
 
@@ -25,11 +25,11 @@ pub body_same : (body : Body) (v : OpeningValue) (h : HeaderValue) (key : List �
 body_same body v h key p is = rw (is.content, is.max_unit, is.derives, is.id) refl
 
 -- before the header is unlocked
-pub judged_locked : (opener : Opener) (v : OpeningValue) → IsLocked opener v → judged_now v ≡ locked Going
+pub judged_locked : (opener : Opener) (v : OpeningValue) → OpenerIsLocked opener v → judged_now v ≡ locked Going
 judged_locked opener v at = judged_wanting v.taken v.settings (answer_kept v.answer) at.wanting
 
 -- and then
-pub judged_unlocked : (u : Unlocked) (v : OpeningValue) → (at : IsUnlocked u v) → judged_now v ≡ opened_as (judged_body u.body.content u.body.max_unit u.body.key u.body.message_id at.place)
+pub judged_unlocked : (u : Unlocked) (v : OpeningValue) → (at : OpenerIsUnlocked u v) → judged_now v ≡ opened_as (judged_body u.body.content u.body.max_unit u.body.key u.body.message_id at.place)
 judged_unlocked u v at =
     ap (λ (o : Option _). judged v.taken v.settings (answer_kept o)) at.answer
     ∙ judged_read v.taken v.settings (Unlocks u.whole u.only at.key) at.parts at.place at.reads
@@ -77,7 +77,7 @@ only_told opener v o e stands = sym (only_at opener v o (stands_as opener v o e 
 
 -- ---- nothing is given any more
 
-quiet_out : (o : Option Unlocked) → out_of (quiet o) ≡ []
+quiet_out : (o : Option Unlocked) → opener_out (quiet o) ≡ []
 quiet_out None = refl
 quiet_out (Some u) = refl
 
@@ -111,39 +111,39 @@ stands_quiet opener next v stopped stands on settings given reader served is unl
   given = given ∙ stands.given;
   served = served ∙ stands.served;
   stopped = is;
-  out = ap out_of unlocked ∙ quiet_out opener.unlocked;
+  out = ap opener_out unlocked ∙ quiet_out opener.unlocked;
   at = subst (λ (o : Option Unlocked). StandsAt next (record v { stopped = stopped; out = [] }) o) (sym unlocked) (quiet_at opener next v opener.unlocked stopped reader on stands.at);
 }
 
 -- ---- the end
 
-pub finish_stopped : (v : OpeningValue) → v.stopped ≡ true → finish_answer v ≡ Err errors.Stopped
-unfolding finish_answer
+pub finish_stopped : (v : OpeningValue) → v.stopped ≡ true → opening_finish_answer v ≡ Err errors.Stopped
+unfolding opening_finish_answer
 finish_stopped v e = rw e refl
 
-pub finished_as : (v : OpeningValue) (b e : Bool) → v.stopped ≡ b → is_end (judged_now v).verdict ≡ e → finished v ≡ record v { stopped = b || not e; out = [] }
-unfolding finished
+pub finished_as : (v : OpeningValue) (b e : Bool) → v.stopped ≡ b → is_end (judged_now v).verdict ≡ e → opening_finished v ≡ record v { stopped = b || not e; out = [] }
+unfolding opening_finished
 finished_as v b e stopped end = ap (λ (x : Bool). value (record v { stopped = x || not (is_end (judged_now v).verdict); out = [] })) stopped ∙ ap (λ (x : Bool). value (record v { stopped = b || not x; out = [] })) end
   where
     value : OpeningValue → OpeningValue
     value w = w
 
-ends_ok : (verdict : Verdict) → is_end verdict ≡ true → end_of verdict ≡ Ok tt
+ends_ok : (verdict : Verdict) → is_end verdict ≡ true → end_of_verdict verdict ≡ Ok tt
 ends_ok Going e = absurd cc
 ends_ok Whole e = refl
 ends_ok (Faulty fault) e = absurd cc
 
-pub finish_whole : (v : OpeningValue) → v.stopped ≡ false → is_end (judged_now v).verdict ≡ true → finish_answer v ≡ Ok tt
-unfolding finish_answer
-finish_whole v on whole = ap (λ (b : Bool). if b then Err errors.Stopped else end_of (judged_now v).verdict) on ∙ ends_ok (judged_now v).verdict whole
+pub finish_whole : (v : OpeningValue) → v.stopped ≡ false → is_end (judged_now v).verdict ≡ true → opening_finish_answer v ≡ Ok tt
+unfolding opening_finish_answer
+finish_whole v on whole = ap (λ (b : Bool). if b then Err errors.Stopped else end_of_verdict (judged_now v).verdict) on ∙ ends_ok (judged_now v).verdict whole
 
-going_at : (opener : Opener) (v : OpeningValue) (o : Option Unlocked) → StandsAt opener v o → ended_of o ≡ false → end_of (judged_now v).verdict ≡ Err (errors.Fault Truncated)
-going_at opener v None at e = ap (λ (j : Judged). end_of j.verdict) (judged_locked opener v at)
+going_at : (opener : Opener) (v : OpeningValue) (o : Option Unlocked) → StandsAt opener v o → ended_of o ≡ false → end_of_verdict (judged_now v).verdict ≡ Err (errors.Fault Truncated)
+going_at opener v None at e = ap (λ (j : Judged). end_of_verdict j.verdict) (judged_locked opener v at)
 going_at opener v (Some u) at e =
-    ap (λ (j : Judged). end_of j.verdict) (judged_unlocked u v at) ∙ ap end_of at.behind.verdict ∙ ap (λ (b : Bool). end_of (if b then Whole else Going)) e
+    ap (λ (j : Judged). end_of_verdict j.verdict) (judged_unlocked u v at) ∙ ap end_of_verdict at.behind.verdict ∙ ap (λ (b : Bool). end_of_verdict (if b then Whole else Going)) e
 
-pub finish_going : (opener : Opener) (v : OpeningValue) → Stands opener v → v.stopped ≡ false → is_end (judged_now v).verdict ≡ false → finish_answer v ≡ Err (errors.Fault Truncated)
-unfolding finish_answer
+pub finish_going : (opener : Opener) (v : OpeningValue) → Stands opener v → v.stopped ≡ false → is_end (judged_now v).verdict ≡ false → opening_finish_answer v ≡ Err (errors.Fault Truncated)
+unfolding opening_finish_answer
 finish_going opener v stands on going =
-    ap (λ (b : Bool). if b then Err errors.Stopped else end_of (judged_now v).verdict) on
+    ap (λ (b : Bool). if b then Err errors.Stopped else end_of_verdict (judged_now v).verdict) on
     ∙ going_at opener v opener.unlocked stands.at (whole_told opener v opener.unlocked refl stands ∙ going)

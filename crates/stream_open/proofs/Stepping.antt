@@ -9,7 +9,7 @@ use Rattle.esdk_fields.specs.Place.{Place, start, followed}
 use Rattle.esdk_fields.specs.Reading.{Reading, Read, Refused, Wanting, value_of}
 use Rattle.esdk_fields.proofs.Fronts.{value_stays, read_after, end_stays}
 use Rattle.header_codec.specs.Header.{HeaderValue}
-use Rattle.header_codec.specs.Table.{Head, header}
+use Rattle.header_codec.specs.Table.{HeaderFields, header}
 use Rattle.header_codec.proofs.Order.{IsSequential-header}
 use Rattle.suite_table.specs.declared.suite.Suite.{Suite}
 use Rattle.suite_table.specs.Keys.{derived}
@@ -28,9 +28,9 @@ use Rattle.stream_open.specs.declared.unlocked.Unlocked.{Unlocked}
 use Rattle.stream_open.specs.declared.errors.OpenError.{OpenError}
 use Rattle.stream_open.specs.declared.errors.OpenError.TheVariants as errors
 use Rattle.stream_open.specs.Asking.{Nothing}
-use Rattle.stream_open.specs.Body.{HoldsFrames, LacksRoom, AnswersBody, BecameBody, IsBehind, IsInUnit, SameBody, StandsBehind, StepsIn, StepsBody, is_wanting, open_unit, unit_reach, reading_answer, body_answer}
-use Rattle.stream_open.specs.Session.{OpeningValue, answer_kept, judged_now, judged_with, header_asked, asked_header, is_faulty, is_stop, reach, added, answer_at, answer_on, step_answer, framed, is_framed, Answers, MayRunOut}
-use Rattle.stream_open.specs.Stands.{IsBodyOf, IsUnlocked, StepsUnlocked}
+use Rattle.stream_open.specs.Body.{HoldsFrames, LacksRoom, AnswersBody, BecameBody, IsBehind, IsInUnit, SameBody, StandsBehind, StepsIn, StepsBody, is_wanting, open_unit, reach_in_piece, reading_answer, body_answer}
+use Rattle.stream_open.specs.Session.{OpeningValue, answer_kept, judged_now, judged_with, header_asked, asked_header, is_faulty, is_stop, reach, added_content, answer_at, answer_on, opening_step_answer, framed, is_framed, Answers, MayRunOut}
+use Rattle.stream_open.specs.Stands.{IsBodyOf, OpenerIsUnlocked, StepsUnlocked}
 use Rattle.stream_open.proofs.AnyCut.{behind_front}
 use Rattle.stream_open.proofs.Behind.{Clean, said, said_as, behind_units, followed_none, judged_on, judged_here, behind_wanting, behind_more}
 use Rattle.stream_open.proofs.Bodies.{ended_empty, ended_trailing}
@@ -49,7 +49,7 @@ reading body piece n = open_unit body (body.unit.held ++ take n piece)
 abbrev opens_as : JudgedBody → Judged
 opens_as j = opened_as j
 
-pub judged_then : (u : Unlocked) (v : OpeningValue) (more : List ℕ) → (at : IsUnlocked u v)
+pub judged_then : (u : Unlocked) (v : OpeningValue) (more : List ℕ) → (at : OpenerIsUnlocked u v)
     → judged (v.taken ++ more) v.settings (answer_kept v.answer) ≡ opened_as (judged_body u.body.content u.body.max_unit u.body.key u.body.message_id (followed at.place more))
 judged_then u v more at =
     ap (λ (o : Option _). judged (v.taken ++ more) v.settings (answer_kept o)) at.answer
@@ -59,11 +59,11 @@ judged_then u v more at =
     ∙ judged_opened v.settings (header_of v.taken at.parts) (followed at.place more) u.whole u.only at.key at.opens
     ∙ ap opens_as (body_same u.body v (header_of v.taken at.parts) at.key (followed at.place more) at.body)
 
-pub with_said : (u : Unlocked) (v : OpeningValue) (piece : List ℕ) (n : ℕ) → (at : IsUnlocked u v) → IsBehind u.body at.place → Clean (reading u.body piece n)
+pub with_said : (u : Unlocked) (v : OpeningValue) (piece : List ℕ) (n : ℕ) → (at : OpenerIsUnlocked u v) → IsBehind u.body at.place → Clean (reading u.body piece n)
     → judged_with v piece n ≡ opened_as (said (behind_units u.body at.place) (reading u.body piece n))
 with_said u v piece n at behind clean = judged_then u v (take n piece) at ∙ ap opens_as (judged_on u.body at.place (take n piece) behind clean)
 
-pub now_said : (u : Unlocked) (v : OpeningValue) → (at : IsUnlocked u v) → IsBehind u.body at.place → judged_now v ≡ opened_as (said_as (behind_units u.body at.place) Going)
+pub now_said : (u : Unlocked) (v : OpeningValue) → (at : OpenerIsUnlocked u v) → IsBehind u.body at.place → judged_now v ≡ opened_as (said_as (behind_units u.body at.place) Going)
 now_said u v at behind = judged_unlocked u v at ∙ ap opens_as (judged_here u.body at.place behind)
 
 -- ---- where a step ends
@@ -80,7 +80,7 @@ stop_said units (Read (Last content) next) =
 stop_said units (Refused fault at) = refl
 stop_said units Wanting = le-ltb (length units + 1) (length (units ++ []) + 1) (omega (arith, length-append units []))
 
-stop_is : (u : Unlocked) (v : OpeningValue) (piece : List ℕ) (n : ℕ) → (at : IsUnlocked u v) → IsBehind u.body at.place → Clean (reading u.body piece n)
+stop_is : (u : Unlocked) (v : OpeningValue) (piece : List ℕ) (n : ℕ) → (at : OpenerIsUnlocked u v) → IsBehind u.body at.place → Clean (reading u.body piece n)
     → is_stop v piece n ≡ not (is_wanting (reading u.body piece n))
 stop_is u v piece n at behind clean =
     ap (λ (j : Judged). is_faulty j.verdict || nat_lt (marks (judged_now v)) (marks j)) (with_said u v piece n at behind clean)
@@ -107,16 +107,16 @@ clean_by body piece n (Read x next) reached waits e =
 clean_by body piece n (Refused fault at) reached waits e = tt
 clean_by body piece n Wanting reached waits e = tt
 
-pub first_reach : (body : Body) (piece : List ℕ) → open_unit body body.unit.held ≡ Wanting → Reaches body piece (unit_reach body piece)
+pub first_reach : (body : Body) (piece : List ℕ) → open_unit body body.unit.held ≡ Wanting → Reaches body piece (reach_in_piece body piece)
 first_reach body piece waits = reaches body piece (ap (open_unit body) (append-nil body.unit.held) ∙ waits)
 
-pub clean_at : (body : Body) (piece : List ℕ) → open_unit body body.unit.held ≡ Wanting → Clean (reading body piece (unit_reach body piece))
-clean_at body piece waits = clean_by body piece (unit_reach body piece) (reading body piece (unit_reach body piece)) (first_reach body piece waits) waits refl
+pub clean_at : (body : Body) (piece : List ℕ) → open_unit body body.unit.held ≡ Wanting → Clean (reading body piece (reach_in_piece body piece))
+clean_at body piece waits = clean_by body piece (reach_in_piece body piece) (reading body piece (reach_in_piece body piece)) (first_reach body piece waits) waits refl
 
-pub reach_same : (u : Unlocked) (v : OpeningValue) (piece : List ℕ) → (at : IsUnlocked u v) → IsBehind u.body at.place → reach v piece ≡ unit_reach u.body piece
+pub reach_same : (u : Unlocked) (v : OpeningValue) (piece : List ℕ) → (at : OpenerIsUnlocked u v) → IsBehind u.body at.place → reach v piece ≡ reach_in_piece u.body piece
 unfolding reach
 reach_same u v piece at behind =
-    let n : ℕ = unit_reach u.body piece in
+    let n : ℕ = reach_in_piece u.body piece in
     let reached = first_reach u.body piece behind.wanting in
     stops_by (λ k. not (is_stop v piece k)) (length piece) n (not (is_stop v piece n)) refl
     (record {
@@ -137,14 +137,14 @@ answer_same n (Read (Last content) next) clean = ap (λ (l : List ℕ). answer_a
 answer_same n (Refused fault at) clean = refl
 answer_same n Wanting clean = refl
 
-going_answer : (v : OpeningValue) (piece : List ℕ) → v.stopped ≡ false → step_answer v piece Nothing ≡ answer_at (reach v piece) (judged_with v piece (reach v piece)).verdict
-unfolding step_answer
+going_answer : (v : OpeningValue) (piece : List ℕ) → v.stopped ≡ false → opening_step_answer v piece Nothing ≡ answer_at (reach v piece) (judged_with v piece (reach v piece)).verdict
+unfolding opening_step_answer
 going_answer v piece going = ap (λ (b : Bool). if b then Err errors.Stopped else answer_on v piece Nothing) going
 
-in_unit : (u : Unlocked) (v : OpeningValue) (piece : List ℕ) → (at : IsUnlocked u v) → v.stopped ≡ false → u.body.ended ≡ false → step_answer v piece Nothing ≡ body_answer u.body piece
+in_unit : (u : Unlocked) (v : OpeningValue) (piece : List ℕ) → (at : OpenerIsUnlocked u v) → v.stopped ≡ false → u.body.ended ≡ false → opening_step_answer v piece Nothing ≡ body_answer u.body piece
 in_unit u v piece at going unended =
     let behind = at.behind.going going unended in
-    let n : ℕ = unit_reach u.body piece in
+    let n : ℕ = reach_in_piece u.body piece in
     let clean = clean_at u.body piece behind.wanting in
     going_answer v piece going
     ∙ ap (λ (m : ℕ). answer_at m (judged_with v piece m).verdict) (reach_same u v piece at behind)
@@ -152,10 +152,10 @@ in_unit u v piece at going unended =
     ∙ answer_same n (reading u.body piece n) clean
     ∙ sym (answer_at_reach u.body piece n (reading u.body piece n) unended (first_reach u.body piece behind.wanting) refl)
 
-pub whole_verdict : (u : Unlocked) (v : OpeningValue) → (at : IsUnlocked u v) → u.body.ended ≡ true → (judged_body u.body.content u.body.max_unit u.body.key u.body.message_id at.place).verdict ≡ Whole
+pub whole_verdict : (u : Unlocked) (v : OpeningValue) → (at : OpenerIsUnlocked u v) → u.body.ended ≡ true → (judged_body u.body.content u.body.max_unit u.body.key u.body.message_id at.place).verdict ≡ Whole
 whole_verdict u v at ended = at.behind.verdict ∙ ap (λ (b : Bool). if b then Whole else Going) ended
 
-behind_all : (u : Unlocked) (v : OpeningValue) (piece : List ℕ) → (at : IsUnlocked u v) → v.stopped ≡ false → u.body.ended ≡ true → step_answer v piece Nothing ≡ body_answer u.body piece
+behind_all : (u : Unlocked) (v : OpeningValue) (piece : List ℕ) → (at : OpenerIsUnlocked u v) → v.stopped ≡ false → u.body.ended ≡ true → opening_step_answer v piece Nothing ≡ body_answer u.body piece
 behind_all u v piece at going ended =
     let ends = reach_ends v piece in
     let n : ℕ = reach v piece in
@@ -179,7 +179,7 @@ behind_all u v piece at going ended =
           ∙ sym (ended_trailing u.body piece ended (λ e. omega arith)))
     ]
 
-same_by : (u : Unlocked) (v : OpeningValue) (piece : List ℕ) (b : Bool) → u.body.ended ≡ b → (at : IsUnlocked u v) → v.stopped ≡ false → step_answer v piece Nothing ≡ body_answer u.body piece
+same_by : (u : Unlocked) (v : OpeningValue) (piece : List ℕ) (b : Bool) → u.body.ended ≡ b → (at : OpenerIsUnlocked u v) → v.stopped ≡ false → opening_step_answer v piece Nothing ≡ body_answer u.body piece
 same_by u v piece true e at going = behind_all u v piece at going e
 same_by u v piece false e at going = in_unit u v piece at going e
 
@@ -188,28 +188,28 @@ unframed : (b : Bool) → (b ≡ true → ⊥) → b ≡ false
 unframed true never = absurd (never refl)
 unframed false never = refl
 
-runs_out : (u : Unlocked) (v : OpeningValue) → IsUnlocked u v → v.stopped ≡ false → u.body.ended ≡ false → LacksRoom u.body → MayRunOut v
+runs_out : (u : Unlocked) (v : OpeningValue) → OpenerIsUnlocked u v → v.stopped ≡ false → u.body.ended ≡ false → LacksRoom u.body → MayRunOut v
 runs_out u v at going unended lacks = record {
   going = going;
   unended = ap (λ (j : Judged). j.verdict) (judged_unlocked u v at) ∙ at.behind.verdict ∙ ap (λ (b : Bool). if b then Whole else Going) unended;
-  unreserved = λ _. ap (λ (r : Reading Head). is_framed (value_of r)) at.reads ∙ unframed (framed at.parts.content) (λ e. lacks (at.body.reserved e));
+  unreserved = λ _. ap (λ (r : Reading HeaderFields). is_framed (value_of r)) at.reads ∙ unframed (framed at.parts.content) (λ e. lacks (at.body.reserved e));
 }
 
-pub answers_as : (u : Unlocked) (v : OpeningValue) (piece : List ℕ) (r : Result ℕ OpenError) → IsUnlocked u v → v.stopped ≡ false → AnswersBody u.body piece r → Answers v piece Nothing r
+pub answers_as : (u : Unlocked) (v : OpeningValue) (piece : List ℕ) (r : Result ℕ OpenError) → OpenerIsUnlocked u v → v.stopped ≡ false → AnswersBody u.body piece r → Answers v piece Nothing r
 answers_as u v piece (Ok n) at going e = same_by u v piece u.body.ended refl at going ∙ e
 answers_as u v piece (Err (errors.Fault fault)) at going e = same_by u v piece u.body.ended refl at going ∙ e
 answers_as u v piece (Err errors.Memory) at going (unended, lacks) = runs_out u v at going unended lacks
 answers_as u v piece (Err errors.KeyringFault) at going e = absurd e
 answers_as u v piece (Err errors.Stopped) at going e = absurd e
 
-pub unasked : (u : Unlocked) (v : OpeningValue) (piece : List ℕ) → IsUnlocked u v → asked_header v piece ≡ None
+pub unasked : (u : Unlocked) (v : OpeningValue) (piece : List ℕ) → OpenerIsUnlocked u v → asked_header v piece ≡ None
 unasked u v piece at = elim_stopped v.stopped
   where
     elim_stopped : (b : Bool) → (if b then None else header_asked v.answer v.settings (v.taken ++ piece)) ≡ None
     elim_stopped true = refl
     elim_stopped false = ap (λ (o : Option _). header_asked o v.settings (v.taken ++ piece)) at.answer
 
-pub inside : (u : Unlocked) (v : OpeningValue) → IsUnlocked u v → v.stopped ≡ false → IsInUnit u.body
+pub inside : (u : Unlocked) (v : OpeningValue) → OpenerIsUnlocked u v → v.stopped ≡ false → IsInUnit u.body
 inside u v at going = λ unended. (at.behind.going going unended).wanting
 
 -- ---- where it stands then
@@ -230,8 +230,8 @@ judged_same : (old new : Body) (p : Place) → SameBody old new
 judged_same old new p same = rw (same.content, same.max_unit, same.key, same.id) refl
 
 -- an error stops the session where it stands
-pub stands_stopped : (u : Unlocked) (v : OpeningValue) (new : Body) → IsUnlocked u v → SameBody u.body new → new.ended ≡ u.body.ended
-    → IsUnlocked (record u { body = new }) (record v { stopped = true; out = [] })
+pub stands_stopped : (u : Unlocked) (v : OpeningValue) (new : Body) → OpenerIsUnlocked u v → SameBody u.body new → new.ended ≡ u.body.ended
+    → OpenerIsUnlocked (record u { body = new }) (record v { stopped = true; out = [] })
 stands_stopped u v new at same kept = record {
   parts = at.parts;
   place = at.place;
@@ -286,8 +286,8 @@ out_became units old new bytes (Refused fault at) out = out ∙ sym (ap concat (
 out_became units old new bytes Wanting (number, unended, held, out) = out ∙ sym (ap concat (behind_front units []))
 
 -- more bytes are taken, and the body stands behind them
-stands_with : (u : Unlocked) (v : OpeningValue) (more out : List ℕ) (new : Body) → (at : IsUnlocked u v) → SameBody u.body new → StandsBehind v.stopped new (followed at.place more)
-    → IsUnlocked (record u { body = new }) (record v { taken = v.taken ++ more; out = out })
+stands_with : (u : Unlocked) (v : OpeningValue) (more out : List ℕ) (new : Body) → (at : OpenerIsUnlocked u v) → SameBody u.body new → StandsBehind v.stopped new (followed at.place more)
+    → OpenerIsUnlocked (record u { body = new }) (record v { taken = v.taken ++ more; out = out })
 stands_with u v more out new at same behind = record {
   parts = at.parts;
   place = followed at.place more;
@@ -311,25 +311,25 @@ used_by m n Wanting e = record { same = cc; fine = λ k. refl }
 
 -- The session after a step that used so many bytes.
 record StandsUsed (u : Unlocked) (v : OpeningValue) (piece : List ℕ) (n : ℕ) (new : Body) : Type 0 where
-  stands : IsUnlocked (record u { body = new }) (record v { taken = v.taken ++ take n piece; out = added (judged_now v) (judged_with v piece n) })
-  out : new.unit.out ≡ added (judged_now v) (judged_with v piece n)
+  stands : OpenerIsUnlocked (record u { body = new }) (record v { taken = v.taken ++ take n piece; out = added_content (judged_now v) (judged_with v piece n) })
+  out : new.unit.out ≡ added_content (judged_now v) (judged_with v piece n)
 
-used_in : (u : Unlocked) (v : OpeningValue) (piece : List ℕ) (n : ℕ) (new : Body) → (at : IsUnlocked u v) → v.stopped ≡ false → u.body.ended ≡ false → SameBody u.body new
+used_in : (u : Unlocked) (v : OpeningValue) (piece : List ℕ) (n : ℕ) (new : Body) → (at : OpenerIsUnlocked u v) → v.stopped ≡ false → u.body.ended ≡ false → SameBody u.body new
     → body_answer u.body piece ≡ Ok n → BecameBody u.body (u.body.unit.held ++ take n piece) (reading u.body piece n) new → StandsUsed u v piece n new
 used_in u v piece n new at going unended same answer became =
     let behind = at.behind.going going unended in
-    let k : ℕ = unit_reach u.body piece in
+    let k : ℕ = reach_in_piece u.body piece in
     let reached = first_reach u.body piece behind.wanting in
     let used = used_by k n (reading u.body piece k) (sym (answer_at_reach u.body piece k (reading u.body piece k) unended reached refl) ∙ answer) in
     let clean : Clean (reading u.body piece n) = subst (λ (m : ℕ). Clean (reading u.body piece m)) used.same (clean_at u.body piece behind.wanting) in
     let fine : (j : ℕ) → reading_answer j (reading u.body piece n) ≡ Ok j = subst (λ (m : ℕ). (j : ℕ) → reading_answer j (reading u.body piece m) ≡ Ok j) used.same used.fine in
     let units : List (List ℕ) = behind_units u.body at.place in
     record {
-      stands = stands_with u v (take n piece) (added (judged_now v) (judged_with v piece n)) new at same
+      stands = stands_with u v (take n piece) (added_content (judged_now v) (judged_with v piece n)) new at same
           (behind_became v.stopped u.body new at.place (take n piece) (reading u.body piece n) behind same clean refl fine became);
       out = out_became units u.body new (u.body.unit.held ++ take n piece) (reading u.body piece n) became
-          ∙ sym (ap (λ (j : Judged). added j (opened_as (said units (reading u.body piece n)))) (now_said u v at behind))
-          ∙ sym (ap (λ (j : Judged). added (judged_now v) j) (with_said u v piece n at behind clean));
+          ∙ sym (ap (λ (j : Judged). added_content j (opened_as (said units (reading u.body piece n)))) (now_said u v at behind))
+          ∙ sym (ap (λ (j : Judged). added_content (judged_now v) j) (with_said u v piece n at behind clean));
     }
 
 -- behind the last unit none is used
@@ -349,7 +349,7 @@ none_used body piece n ended answer =
     refused : failed (errors.Fault TrailingBytes) ≡ used_so n → ⊥
     refused e = err_not_ok (errors.Fault TrailingBytes) n e
 
-used_behind : (u : Unlocked) (v : OpeningValue) (piece : List ℕ) (n : ℕ) (new : Body) → (at : IsUnlocked u v) → u.body.ended ≡ true → SameBody u.body new
+used_behind : (u : Unlocked) (v : OpeningValue) (piece : List ℕ) (n : ℕ) (new : Body) → (at : OpenerIsUnlocked u v) → u.body.ended ≡ true → SameBody u.body new
     → body_answer u.body piece ≡ Ok n → new.ended ≡ true → new.unit.out ≡ [] → StandsUsed u v piece n new
 used_behind u v piece n new at ended same answer stays out =
     let none : n ≡ 0 = (none_used u.body piece n ended answer).none in
@@ -357,24 +357,24 @@ used_behind u v piece n new at ended same answer stays out =
     let is : judged_with v piece n ≡ judged_now v =
     ap (λ (m : ℕ). judged_with v piece m) none ∙ ap (λ (l : List ℕ). judged l v.settings (answer_kept v.answer)) (append-nil v.taken) in
     record {
-      stands = stands_with u v (take n piece) (added (judged_now v) (judged_with v piece n)) new at same
+      stands = stands_with u v (take n piece) (added_content (judged_now v) (judged_with v piece n)) new at same
           (record {
             verdict = ap (λ (j : JudgedBody). j.verdict) (judged_same u.body new (followed at.place (take n piece)) same ∙ ap (judged_body u.body.content u.body.max_unit u.body.key u.body.message_id) there)
                 ∙ whole_verdict u v at ended ∙ ap (λ (b : Bool). if b then Whole else Going) (sym stays);
             going = λ s e. absurd (true_false (sym stays ∙ e));
           });
-      out = out ∙ sym (ap concat (drop_all (length (judged_now v).units) (judged_now v).units (omega arith))) ∙ sym (ap (λ (j : Judged). added (judged_now v) j) is);
+      out = out ∙ sym (ap concat (drop_all (length (judged_now v).units) (judged_now v).units (omega arith))) ∙ sym (ap (λ (j : Judged). added_content (judged_now v) j) is);
     }
   where
     true_false : true ≡ false → ⊥
     true_false e = cc
 
-used_as : (u : Unlocked) (v : OpeningValue) (piece : List ℕ) (n : ℕ) (new : Body) (b : Bool) → u.body.ended ≡ b → (at : IsUnlocked u v) → v.stopped ≡ false → SameBody u.body new
+used_as : (u : Unlocked) (v : OpeningValue) (piece : List ℕ) (n : ℕ) (new : Body) (b : Bool) → u.body.ended ≡ b → (at : OpenerIsUnlocked u v) → v.stopped ≡ false → SameBody u.body new
     → body_answer u.body piece ≡ Ok n → StepsIn b u.body (u.body.unit.held ++ take n piece) new → StandsUsed u v piece n new
 used_as u v piece n new true e at going same answer (stays, out) = used_behind u v piece n new at e same answer stays out
 used_as u v piece n new false e at going same answer became = used_in u v piece n new at going e same answer became
 
-pub steps_unlocked : (u : Unlocked) (v : OpeningValue) (piece : List ℕ) (r : Result ℕ OpenError) (new : Body) → IsUnlocked u v → v.stopped ≡ false → SameBody u.body new
+pub steps_unlocked : (u : Unlocked) (v : OpeningValue) (piece : List ℕ) (r : Result ℕ OpenError) (new : Body) → OpenerIsUnlocked u v → v.stopped ≡ false → SameBody u.body new
     → AnswersBody u.body piece r → IfOk r (λ n. StepsBody u.body piece n new) → OnErr r (new.ended ≡ u.body.ended) → OnErr r (new.unit.out ≡ []) → StepsUnlocked v piece r (record u { body = new })
 steps_unlocked u v piece (Ok n) new at going same answer steps kept nothing =
     let used = used_as u v piece n new u.body.ended refl at going same answer steps in

@@ -18,7 +18,7 @@ use Rattle.frame_codec.proofs.Units.{unit_refuses_head}
 use Rattle.stream_open.specs.declared.body.Body.{Body}
 use Rattle.stream_open.specs.declared.errors.OpenError.{OpenError}
 use Rattle.stream_open.specs.declared.errors.OpenError.TheVariants as errors
-use Rattle.stream_open.specs.Body.{AnswersBody, LacksRoom, BecameBody, GoesBehind, GoesOn, StepsIn, StepsBody, is_wanting, open_unit, unit_reach, reading_answer, body_answer}
+use Rattle.stream_open.specs.Body.{AnswersBody, LacksRoom, BecameBody, GoesBehind, BodyGoesOn, StepsIn, StepsBody, is_wanting, open_unit, reach_in_piece, reading_answer, body_answer}
 use Rattle.stream_open.proofs.Filling.{IsFilled}
 use Rattle.stream_open.proofs.Reaching.{Reaches, reach_is}
 use Rattle.frame_codec.specs.InPlace.{whole_reading}
@@ -29,7 +29,7 @@ pub answer_at_reach : (old : Body) (piece : List ℕ) (n : ℕ) (r : Reading Pie
 unfolding body_answer
 answer_at_reach old piece n r going reaches e =
     ap (λ b. if b then (if Rattle.std.specs.Prelude.nat_eq (length piece) 0 then Ok 0 else Err (errors.Fault TrailingBytes))
-    else reading_answer (unit_reach old piece) (open_unit old (old.unit.held ++ take (unit_reach old piece) piece))) going
+    else reading_answer (reach_in_piece old piece) (open_unit old (old.unit.held ++ take (reach_in_piece old piece) piece))) going
     ∙ ap (λ (m : ℕ). reading_answer m (open_unit old (old.unit.held ++ take m piece))) (reach_is old piece n reaches)
     ∙ ap (reading_answer n) e
 
@@ -90,7 +90,7 @@ became old new bytes kinds.Final number text next same goes out = (goes, out)
 became old new bytes kinds.Single number text next same goes out = (goes, out)
 
 -- the unit was opened, and the next one goes on, or none
-pub opened_steps : (old new : Body) (piece : List ℕ) (n : ℕ) (head : UnitHead) → old.ended ≡ false → IfRegular head.kind (head.number ≡ old.number) → GoesOn head new
+pub opened_steps : (old new : Body) (piece : List ℕ) (n : ℕ) (head : UnitHead) → old.ended ≡ false → IfRegular head.kind (head.number ≡ old.number) → BodyGoesOn head new
     → open_unit old (old.unit.held ++ take n piece) ≡ whole_reading head (old.unit.held ++ take n piece) (Some new.unit.out) → StepsBody old piece n new
 opened_steps old new piece n head going numbered goes is =
     subst (λ b. StepsIn b old (old.unit.held ++ take n piece) new) (sym going)

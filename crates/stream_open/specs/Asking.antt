@@ -10,8 +10,8 @@ use Rattle.keyring_trait.specs.Materials.{DecMaterialsValue}
 use Rattle.keyring_trait.specs.Saying.{Saying}
 pub use Rattle.message_format.specs.Unlocking.{request_of, BearsHeard}
 
--- What a step hears from the manager: nothing, the materials that it found, the fault that it named,
--- or that it failed.
+-- What a step hears from the manager: nothing, the materials that it found, the fault that it
+-- named, or that it failed.
 pub data Heard : Type 0 where
   Nothing : Heard
   Found : (materials : DecMaterialsValue) → Heard

@@ -6,7 +6,7 @@ use Rattle.esdk_fields.specs.declared.refusals.FieldError.TheVariants as fields
 use Rattle.esdk_fields.specs.Reading.{Read, Wanting}
 use Rattle.header_codec.specs.Header.{HeaderValue}
 use Rattle.header_codec.specs.Stands.{Stands as Reads}
-use Rattle.header_codec.specs.Table.{Head, header}
+use Rattle.header_codec.specs.Table.{HeaderFields, header}
 use Rattle.keyring_trait.specs.Manager.{ManagerNow}
 use Rattle.keyring_trait.specs.Saying.{said_last}
 use Rattle.keyring_trait.specs.Unlocking.{Unlocks}
@@ -19,12 +19,12 @@ use Rattle.stream_open.specs.declared.errors.OpenError.{OpenError}
 use Rattle.stream_open.specs.declared.errors.OpenError.TheVariants as errors
 use Rattle.stream_open.specs.Asking.{Heard, Nothing, served_in, IsHeard, BearsHeard}
 use Rattle.stream_open.specs.Body.{HoldsFrames, StandsBehind}
-use Rattle.stream_open.specs.Session.{OpeningValue, asked_header, Answers, stepped, framed}
+use Rattle.stream_open.specs.Session.{OpeningValue, asked_header, Answers, opening_stepped, framed}
 
 -- what an opener gave last
-abbrev pub out_of : Option Unlocked → List ℕ
-out_of None = []
-out_of (Some u) = u.body.unit.out
+abbrev pub opener_out : Option Unlocked → List ℕ
+opener_out None = []
+opener_out (Some u) = u.body.unit.out
 
 -- the same, when nothing is given any more
 abbrev pub quiet : Option Unlocked → Option Unlocked
@@ -39,9 +39,10 @@ pub record IsBodyOf (body : Body) (v : OpeningValue) (h : HeaderValue) (key : Li
   pub max_unit : body.max_unit ≡ v.settings.max_unit
   pub reserved : framed h.content ≡ true → HoldsFrames body.content body.unit.reserved
 
--- The bytes taken begin with a header and its tag, which are unlocked with the answer, and behind them stands what the body took.
-pub record IsUnlocked (u : Unlocked) (v : OpeningValue) : Type 0 where
-  pub parts : Head
+-- The bytes taken begin with a header and its tag, which are unlocked with the answer, and behind
+-- them stands what the body took.
+pub record OpenerIsUnlocked (u : Unlocked) (v : OpeningValue) : Type 0 where
+  pub parts : HeaderFields
   pub place : Place
   pub key : List ℕ
   pub reads : header v.settings (start v.taken) ≡ Read parts place
@@ -51,40 +52,46 @@ pub record IsUnlocked (u : Unlocked) (v : OpeningValue) : Type 0 where
   pub behind : StandsBehind v.stopped u.body place
 
 -- the reader of the header took all bytes, and the header isn't whole yet
-pub record IsLocked (opener : Opener) (v : OpeningValue) : Type 0 where
-  pub reads : v.stopped ≡ false → Reads opener.reader (record { settings = v.settings; taken = v.taken; stopped = false })
+pub record OpenerIsLocked (opener : Opener) (v : OpeningValue) : Type 0 where
+  pub reads : v.stopped ≡ false
+      → Reads opener.reader (record { settings = v.settings; taken = v.taken; stopped = false })
   pub unheard : v.stopped ≡ false → v.answer ≡ None
   pub wanting : header v.settings (start v.taken) ≡ Wanting
 
 abbrev pub StandsAt : Opener → OpeningValue → Option Unlocked → Type 0
-StandsAt opener v None = IsLocked opener v
-StandsAt opener v (Some u) = IsUnlocked u v
+StandsAt opener v None = OpenerIsLocked opener v
+StandsAt opener v (Some u) = OpenerIsUnlocked u v
 
--- It has the session's limits and given pairs, says as it whether it is stopped, how the materials were served, and what was given last, and stands behind the bytes taken.
+-- It has the session's limits and given pairs, says as it whether it is stopped, how the materials
+-- were served, and what was given last, and stands behind the bytes taken.
 pub record Stands (opener : Opener) (v : OpeningValue) : Type 0 where
   pub settings : opener.settings ≡ v.settings
   pub given : opener.given ≡ v.given
   pub served : opener.served ≡ v.served
   pub stopped : opener.stopped ≡ v.stopped
-  pub out : out_of opener.unlocked ≡ v.out
+  pub out : opener_out opener.unlocked ≡ v.out
   pub at : StandsAt opener v opener.unlocked
 
--- What a step comes to at a moment, over a manager that was so and is so now: this was heard from the
--- manager, which bears its lines so; the answer is the session's, and the opener stands for the
+-- What a step comes to at a moment, over a manager that was so and is so now: this was heard from
+-- the manager, which bears its lines so; the answer is the session's, and the opener stands for the
 -- session after it.
-pub record Steps (old new : ManagerNow) (now : ℕ) (v : OpeningValue) (piece : List ℕ) (answer : Result ℕ OpenError) (opener : Opener) : Type 0 where
+pub record OpenerSteps (old new : ManagerNow) (now : ℕ) (v : OpeningValue) (piece : List ℕ)
+    (answer : Result ℕ OpenError) (opener : Opener) : Type 0 where
   pub heard : Heard
-  pub hears : IsHeard (said_last old new) now v.given (asked_header v piece) (answer ≡ Err errors.Memory) heard
+  pub hears : IsHeard (said_last old new) now v.given (asked_header v piece)
+      (answer ≡ Err errors.Memory) heard
   pub bears : BearsHeard old new now (served_in heard)
   pub answers : Answers v piece heard answer
-  pub stands : Stands opener (stepped v piece heard answer)
+  pub stands : Stands opener (opening_stepped v piece heard answer)
 
--- A step once the header is unlocked: no header is asked about, and the answer and what is given are the session's.
-pub record StepsUnlocked (v : OpeningValue) (piece : List ℕ) (answer : Result ℕ OpenError) (u : Unlocked) : Type 0 where
+-- A step once the header is unlocked: no header is asked about, and the answer and what is given
+-- are the session's.
+pub record StepsUnlocked (v : OpeningValue) (piece : List ℕ) (answer : Result ℕ OpenError)
+    (u : Unlocked) : Type 0 where
   pub unasked : asked_header v piece ≡ None
   pub answers : Answers v piece Nothing answer
-  pub stands : IsUnlocked u (stepped v piece Nothing answer)
-  pub out : u.body.unit.out ≡ (stepped v piece Nothing answer).out
+  pub stands : OpenerIsUnlocked u (opening_stepped v piece Nothing answer)
+  pub out : u.body.unit.out ≡ (opening_stepped v piece Nothing answer).out
 
 -- why a header isn't read
 abbrev pub unread_as : FieldError → OpenError

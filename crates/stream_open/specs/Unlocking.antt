@@ -9,7 +9,8 @@ use Rattle.stream_open.specs.Body.{HoldsFrames}
 use Rattle.stream_open.specs.Session.{framed}
 
 -- Nothing is wrong with the lock, and no byte of the body came yet.
-pub record IsBegun (u : Unlocked) (h : HeaderValue) (max_unit : Option ℕ) (m : DecMaterialsValue) : Type 0 where
+pub record IsBegun (u : Unlocked) (h : HeaderValue) (max_unit : Option ℕ) (m : DecMaterialsValue)
+    : Type 0 where
   pub opens : lock_fault h m.only m.key ≡ None
   pub whole : u.whole ≡ m.context
   pub only : u.only ≡ m.only

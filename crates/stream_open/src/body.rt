@@ -1,9 +1,11 @@
 //! The body of a message that comes in pieces.
 
-ghost use Rattle.std.specs.Prelude.{◌≡◌, ◌<◌, ◌≤◌, ℕ, [], ◌++◌, length, take, true, false, IfOk, OnErr};
+ghost use Rattle.std.specs.Prelude.{◌≡◌, ◌<◌, ◌≤◌, ℕ, [], ◌++◌, length, take, true, false, IfOk};
+ghost use Rattle.std.specs.Prelude.{OnErr};
 ghost use Rattle.esdk_fields.specs.Reading.{Read, Refused};
 ghost use Rattle.frame_codec.specs.UnitHead.{final_mark, IfRegular};
-ghost use Rattle.stream_open.specs.Body.{answer_behind, AnswersBody, GoesOn, HoldsFrames, IsInUnit, SameBody, StepsBody};
+ghost use Rattle.stream_open.specs.Body.{answer_behind, AnswersBody, BodyGoesOn, HoldsFrames};
+ghost use Rattle.stream_open.specs.Body.{IsInUnit, SameBody, StepsBody};
 ghost use Rattle.stream_open.specs.Session.{framed};
 
 use crate::errors::OpenError;
@@ -126,7 +128,7 @@ impl Body {
         requires numbered { IfRegular head.now.kind (head.now.number < final_mark) }
         requires going { self.old.ended ≡ false }
         requires given { self.old.unit.held ≡ [] }
-        ensures on { GoesOn head.now self.new }
+        ensures on { BodyGoesOn head.now self.new }
         ensures unit { self.new.unit ≡ self.old.unit }
         ensures same { SameBody self.old self.new }
     {

@@ -2,8 +2,9 @@
 
 ghost use Rattle.std.specs.Prelude.{ℕ};
 ghost use Rattle.keyring_trait.specs.Saying.{said_last};
-ghost use Rattle.stream_open.specs.Feeding.{FeedsBegin, FeedsCompose, FeedsExactly, FeedsNothing, KeepsAnswers, RunsOutBeforeContent};
-ghost use Rattle.stream_open.specs.Laws.{OpensAnyCut, StepsEndExactly, StopsExactly};
+ghost use Rattle.stream_open.specs.Feeding.{FeedsBegin, FeedsCompose, FeedsExactly, FeedsNothing};
+ghost use Rattle.stream_open.specs.Feeding.{KeepsAnswers, RunsOutBeforeContent};
+ghost use Rattle.stream_open.specs.Laws.{OpensAnyCut, StepsEndExactly, OpeningStopsExactly};
 ghost use Rattle.stream_open.specs.OpenUnit.{HoldsLessThanAUnit};
 ghost use Rattle.stream_open.specs.Receiving.{FedAsOne};
 
@@ -20,7 +21,7 @@ pub fn any_cut_gives_the_content()
 /// A session is stopped exactly where a call answered an error, and then, and only then, every call
 /// answers `Stopped`.
 pub fn errors_come_exactly()
-    ensures { StopsExactly }
+    ensures { OpeningStopsExactly }
 {}
 
 /// A caller feeds a piece to its end, step after step: each step uses at least one byte, and what

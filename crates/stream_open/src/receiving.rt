@@ -2,7 +2,7 @@
 
 ghost use Rattle.std.specs.Prelude.{◌≡◌};
 ghost use Rattle.keyring_trait.specs.Manager.{Went};
-ghost use Rattle.stream_open.specs.Receiving.{FeedsPiece, GivesOut, HasSession};
+ghost use Rattle.stream_open.specs.Receiving.{FeedsOpenerPiece, OpenerGivesOut, OpenerHasSession};
 ghost use Rattle.stream_open.specs.Session.{OpeningValue};
 ghost use Rattle.stream_open.specs.Stands.{Stands};
 
@@ -31,10 +31,11 @@ impl Opener {
         piece: &[u8],
         output: &mut R,
     ) -> Result<(), FeedError<OpenError, R::Error>>
-        requires session { HasSession self.old }
-        ensures fed { (v : OpeningValue) → Stands self.old v → FeedsPiece M.state R.takes R.fails
+        requires session { OpenerHasSession self.old }
+        ensures fed { (v : OpeningValue) → Stands self.old v
+            → FeedsOpenerPiece M.state R.takes R.fails
             now v piece.now manager.old manager.new output.old output.new self.new result }
-        ensures session { HasSession self.new }
+        ensures session { OpenerHasSession self.new }
         ensures went { Went (M.state manager.old) (M.state manager.new) }
     {
         // Where the manager isn't asked, it stays as it is: `wraps` says what that keeps.
@@ -60,7 +61,7 @@ impl Opener {
 
 /// Hands a content to the receiver, if it has any bytes.
 fn hand_out<R: Receiver>(content: &[u8], output: &mut R) -> Result<(), R::Error>
-    ensures { GivesOut R.takes R.fails content.now output.old output.new result }
+    ensures { OpenerGivesOut R.takes R.fails content.now output.old output.new result }
 {
     if content.is_empty() {
         return Ok(());

@@ -3,8 +3,10 @@
 ghost use Rattle.std.specs.Prelude.{◌≡◌, ◌≤◌, false, length, None, IfOk};
 ghost use Rattle.std.specs.Option.{option_copied};
 ghost use Rattle.keyring_trait.specs.Manager.{Went};
-ghost use Rattle.stream_open.specs.Session.{OpeningValue, new_session, judged_now, asked_header, finish_answer, finished, whole_context, only_authenticated, is_end};
-ghost use Rattle.stream_open.specs.Stands.{Stands, Steps, quiet, unread_as};
+ghost use Rattle.stream_open.specs.Session.{OpeningValue, new_opening_session, judged_now};
+ghost use Rattle.stream_open.specs.Session.{asked_header, opening_finish_answer, opening_finished};
+ghost use Rattle.stream_open.specs.Session.{whole_context, only_authenticated, is_end};
+ghost use Rattle.stream_open.specs.Stands.{Stands, OpenerSteps, quiet, unread_as};
 
 use crate::errors::OpenError;
 use crate::unlocked::{Unlocked, begun};
@@ -33,7 +35,7 @@ impl Opener {
     /// An opener that has taken nothing. It keeps these limits, and the manager is told these pairs
     /// beside those that the header stores.
     pub fn new(alloc: Global, settings: Settings, given: Context) -> Opener
-        ensures { Stands result (new_session settings given) }
+        ensures { Stands result (new_opening_session settings given) }
     {
         Opener {
             settings,
@@ -78,7 +80,7 @@ impl Opener {
         now: u64,
         piece: &[u8],
     ) -> Result<usize, OpenError>
-        ensures steps { (v : OpeningValue) → Stands self.old v → Steps (M.state manager.old)
+        ensures steps { (v : OpeningValue) → Stands self.old v → OpenerSteps (M.state manager.old)
             (M.state manager.new) now v piece.now result self.new }
         ensures within { (v : OpeningValue) → Stands self.old v
             → IfOk result (λ used. used ≤ length piece.now) }
@@ -132,7 +134,7 @@ impl Opener {
         requires manager { Went (M.state manager.old) (M.state manager.old) }
         requires going { self.old.stopped ≡ false }
         requires locked { self.old.unlocked ≡ None }
-        ensures steps { (v : OpeningValue) → Stands self.old v → Steps (M.state manager.old)
+        ensures steps { (v : OpeningValue) → Stands self.old v → OpenerSteps (M.state manager.old)
             (M.state manager.new) now v piece.now result self.new }
         ensures within { (v : OpeningValue) → Stands self.old v
             → IfOk result (λ used. used ≤ length piece.now) }
@@ -160,8 +162,9 @@ impl Opener {
     /// where more bytes are wanted, and then the opener is stopped; `Stopped` exactly where an
     /// earlier call answered an error. In all cases `out` is empty.
     pub fn finish(&mut self) -> Result<(), OpenError>
-        ensures answer { (v : OpeningValue) → Stands self.old v → result ≡ finish_answer v }
-        ensures stands { (v : OpeningValue) → Stands self.old v → Stands self.new (finished v) }
+        ensures answer { (v : OpeningValue) → Stands self.old v → result ≡ opening_finish_answer v }
+        ensures stands { (v : OpeningValue) → Stands self.old v
+            → Stands self.new (opening_finished v) }
     {
         self.give_nothing();
         if self.stopped {

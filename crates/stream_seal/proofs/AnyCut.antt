@@ -6,9 +6,9 @@ use Rattle.frame_codec.specs.Written.{regular_frame, final_frame}
 use Rattle.keyring_trait.specs.Materials.{EncMaterialsValue}
 use Rattle.message_format.specs.Message.{message}
 use Rattle.body_format.specs.Written.{framed_body, regular_frames}
-use Rattle.stream_seal.specs.Session.{SealingValue, Doing, Stops, Gives, Takes, beginning, held, doing, after_doing, new_session, finished, under_of}
+use Rattle.stream_seal.specs.Session.{SealingValue, Doing, Stops, Gives, Takes, beginning, held, doing, after_doing, new_sealing_session, sealing_finished, under_of}
 use Rattle.stream_seal.specs.Start.{message_of, most_frames, start_of}
-use Rattle.stream_seal.specs.Laws.{Event, Step, Finish, after_event, after_all, given_by, finishes, is_finished_by, HoldsSome, HoldsNone, BeginsMessage, IsSameMessage, IsSealed, SealsAnyCutOf}
+use Rattle.stream_seal.specs.Laws.{SealingEvent, Step, Finish, after_sealing_event, after_sealing_events, given_by_sealing, finishes, is_finished_by, HoldsSome, HoldsNone, BeginsMessage, IsSameMessage, IsSealed, SealsAnyCutOf}
 use Rattle.stream_seal.proofs.Doing.{DoesSo, does, doing_stopped}
 use Rattle.stream_seal.proofs.Standing.{finished_stopped, finished_on}
 use Rattle.stream_seal.proofs.Frames.{LeavesOne, frames_front, frames_more, count_of, body_of}
@@ -20,11 +20,11 @@ same_doing v piece (Stops error) = record { materials = refl; declared = refl; s
 same_doing v piece Gives = record { materials = refl; declared = refl; size = refl; id = refl }
 same_doing v piece (Takes count) = record { materials = refl; declared = refl; size = refl; id = refl }
 
-same_finished : (v : SealingValue) (b : Bool) → v.stopped ≡ b → IsSameMessage v (finished v)
+same_finished : (v : SealingValue) (b : Bool) → v.stopped ≡ b → IsSameMessage v (sealing_finished v)
 same_finished v true stopped = subst (λ w. IsSameMessage v w) (sym (finished_stopped v stopped)) (record { materials = refl; declared = refl; size = refl; id = refl })
 same_finished v false on = subst (λ w. IsSameMessage v w) (sym (finished_on v on)) (record { materials = refl; declared = refl; size = refl; id = refl })
 
-same_event : (v : SealingValue) (e : Event) → IsSameMessage v (after_event v e)
+same_event : (v : SealingValue) (e : SealingEvent) → IsSameMessage v (after_sealing_event v e)
 same_event v (Step piece) = same_doing v piece (doing v piece)
 same_event v Finish = same_finished v v.stopped refl
 
@@ -36,10 +36,10 @@ same_then u v w first second = record {
   id = second.id ∙ first.id;
 }
 
-pub same_all : (es : List Event) (v : SealingValue) → IsSameMessage v (after_all es v)
-unfolding after_all
+pub same_all : (es : List SealingEvent) (v : SealingValue) → IsSameMessage v (after_sealing_events es v)
+unfolding after_sealing_events
 same_all [] v = record { materials = refl; declared = refl; size = refl; id = refl }
-same_all (e ∷ es) v = same_then v (after_event v e) (after_all es (after_event v e)) (same_event v e) (same_all es (after_event v e))
+same_all (e ∷ es) v = same_then v (after_sealing_event v e) (after_sealing_events es (after_sealing_event v e)) (same_event v e) (same_all es (after_sealing_event v e))
 
 -- ---- what every call keeps
 
@@ -57,7 +57,7 @@ all_within : (declared : Option ℕ) → IfSome declared (λ whole. 0 ≤ whole)
 all_within None = tt
 all_within (Some whole) = omega arith
 
-pub kept_none : (m : EncMaterialsValue) (declared : Option ℕ) (size : ℕ) (id : List ℕ) → IsKept (new_session m declared size id) false []
+pub kept_none : (m : EncMaterialsValue) (declared : Option ℕ) (size : ℕ) (id : List ℕ) → IsKept (new_sealing_session m declared size id) false []
 unfolding regular_frames
 kept_none m declared size id = record {
   low = omega arith;
@@ -111,7 +111,7 @@ kept_doing v piece given (Takes count) so kept =
       whole = λ e. absurd (false≢true e);
     }
 
-pub kept_finished : (v : SealingValue) (given : List ℕ) (b : Bool) → v.stopped ≡ b → IsKept v false given → IsKept (finished v) (not b) (given ++ (finished v).out)
+pub kept_finished : (v : SealingValue) (given : List ℕ) (b : Bool) → v.stopped ≡ b → IsKept v false given → IsKept (sealing_finished v) (not b) (given ++ (sealing_finished v).out)
 kept_finished v given true stopped kept = subst (λ w. IsKept w false (given ++ w.out)) (sym (finished_stopped v stopped)) (record {
   low = kept.low;
   high = kept.high;
@@ -132,7 +132,7 @@ kept_finished v given false on kept = subst (λ w. IsKept w true (given ++ w.out
 })
 
 -- a call of a session that goes on, or was stopped by an error
-pub kept_event : (v : SealingValue) (e : Event) (given : List ℕ) → IsKept v false given → IsKept (after_event v e) (finishes v e) (given ++ (after_event v e).out)
+pub kept_event : (v : SealingValue) (e : SealingEvent) (given : List ℕ) → IsKept v false given → IsKept (after_sealing_event v e) (finishes v e) (given ++ (after_sealing_event v e).out)
 kept_event v (Step piece) given kept = kept_doing v piece given (doing v piece) (does v piece) kept
 kept_event v Finish given kept = kept_finished v given v.stopped refl kept
 
@@ -148,23 +148,23 @@ kept_silent v b given kept stopped = record {
   whole = λ e. append-nil given ∙ kept.whole e;
 }
 
-kept_after : (v : SealingValue) (e : Event) (given : List ℕ) → IsKept v true given → IsKept (after_event v e) true (given ++ (after_event v e).out)
+kept_after : (v : SealingValue) (e : SealingEvent) (given : List ℕ) → IsKept v true given → IsKept (after_sealing_event v e) true (given ++ (after_sealing_event v e).out)
 kept_after v (Step piece) given kept =
     subst (λ d. IsKept (after_doing v piece d) true (given ++ (after_doing v piece d).out)) (sym (doing_stopped v piece (kept.stops refl))) (kept_silent v true given kept refl)
 kept_after v Finish given kept =
     subst (λ w. IsKept w true (given ++ w.out)) (sym (finished_stopped v (kept.stops refl))) (kept_silent v v.stopped given kept (kept.stops refl))
 
-pub kept_all : (es : List Event) (v : SealingValue) (ended : Bool) (given : List ℕ) → IsKept v ended given → IsKept (after_all es v) (ended || is_finished_by es v) (given ++ given_by es v)
-unfolding after_all given_by is_finished_by
+pub kept_all : (es : List SealingEvent) (v : SealingValue) (ended : Bool) (given : List ℕ) → IsKept v ended given → IsKept (after_sealing_events es v) (ended || is_finished_by es v) (given ++ given_by_sealing es v)
+unfolding after_sealing_events given_by_sealing is_finished_by
 kept_all [] v true given kept = subst (λ (l : List ℕ). IsKept v true l) (sym (append-nil given)) kept
 kept_all [] v false given kept = subst (λ (l : List ℕ). IsKept v false l) (sym (append-nil given)) kept
 kept_all (e ∷ es) v true given kept =
-    subst (λ (l : List ℕ). IsKept (after_all es (after_event v e)) true l) (append_assoc given (after_event v e).out (given_by es (after_event v e)))
-    (kept_all es (after_event v e) true (given ++ (after_event v e).out) (kept_after v e given kept))
+    subst (λ (l : List ℕ). IsKept (after_sealing_events es (after_sealing_event v e)) true l) (append_assoc given (after_sealing_event v e).out (given_by_sealing es (after_sealing_event v e)))
+    (kept_all es (after_sealing_event v e) true (given ++ (after_sealing_event v e).out) (kept_after v e given kept))
 kept_all (e ∷ es) v false given kept =
-    subst (λ (l : List ℕ). IsKept (after_all es (after_event v e)) (finishes v e || is_finished_by es (after_event v e)) l)
-    (append_assoc given (after_event v e).out (given_by es (after_event v e)))
-    (kept_all es (after_event v e) (finishes v e) (given ++ (after_event v e).out) (kept_event v e given kept))
+    subst (λ (l : List ℕ). IsKept (after_sealing_events es (after_sealing_event v e)) (finishes v e || is_finished_by es (after_sealing_event v e)) l)
+    (append_assoc given (after_sealing_event v e).out (given_by_sealing es (after_sealing_event v e)))
+    (kept_all es (after_sealing_event v e) (finishes v e) (given ++ (after_sealing_event v e).out) (kept_event v e given kept))
 
 -- ---- the message
 
@@ -232,14 +232,14 @@ same_beginning v w same =
     ap (λ (m : EncMaterialsValue). start_of m w.size w.id) same.materials ∙ ap (λ (n : ℕ). start_of v.materials n w.id) same.size
     ∙ ap (λ (l : List ℕ). start_of v.materials v.size l) same.id
 
-pub any_cut : (m : EncMaterialsValue) (declared : Option ℕ) (size : ℕ) (id : List ℕ) (events : List Event) → 1 ≤ size → SealsAnyCutOf (new_session m declared size id) events
+pub any_cut : (m : EncMaterialsValue) (declared : Option ℕ) (size : ℕ) (id : List ℕ) (events : List SealingEvent) → 1 ≤ size → SealsAnyCutOf (new_sealing_session m declared size id) events
 any_cut m declared size id events wide =
-    let begun : SealingValue = new_session m declared size id in
-    let v : SealingValue = after_all events begun in
+    let begun : SealingValue = new_sealing_session m declared size id in
+    let v : SealingValue = after_sealing_events events begun in
     let same : IsSameMessage begun v = same_all events begun in
     let kept = kept_all events begun false [] (kept_none m declared size id) in
     record {
       same = same;
-      sealed = subst (λ (l : List ℕ). IsSealed v (is_finished_by events begun) (l ++ given_by events begun)) (same_beginning begun v same)
-          (sealed_of v (is_finished_by events begun) (given_by events begun) (omega (arith, same.size)) kept);
+      sealed = subst (λ (l : List ℕ). IsSealed v (is_finished_by events begun) (l ++ given_by_sealing events begun)) (same_beginning begun v same)
+          (sealed_of v (is_finished_by events begun) (given_by_sealing events begun) (omega (arith, same.size)) kept);
     }

@@ -3,17 +3,17 @@ use Rattle.std.proofs.Common.{◌≡◌, ℕ, ◌+◌, ◌-◌, ◌≤◌, List,
 use Rattle.std.proofs.lemmas.List.{length-drop, length-append, drop-append-le}
 use Rattle.stream_seal.specs.declared.frame_buffer.Stage.{Stage}
 use Rattle.stream_seal.specs.declared.frame_buffer.Stage.TheVariants.{Open, Regular, Final}
-use Rattle.stream_seal.specs.FrameBuffer.{FrameValue, FitsFrame, text_in, out_in, final_head_length, regular_head_length}
+use Rattle.stream_seal.specs.FrameBuffer.{FrameValue, FitsFrame, text_in, frame_out, final_head_length, regular_head_length}
 
 -- what a contract sees of these fields
 abbrev pub value_of : Stage → ℕ → List ℕ → FrameValue
-value_of stage size bytes = record { size = size; text = text_in stage bytes; out = out_in stage bytes }
+value_of stage size bytes = record { size = size; text = text_in stage bytes; out = frame_out stage bytes }
 
 abbrev pub value_with : ℕ → List ℕ → List ℕ → FrameValue
 value_with size text out = record { size = size; text = text; out = out }
 
 -- a buffer that gives nothing is open: a sealed frame isn't empty
-open_is : (stage : Stage) (size : ℕ) (bytes : List ℕ) (capacity : ℕ) → FitsFrame stage size bytes capacity → out_in stage bytes ≡ [] → stage ≡ Open
+open_is : (stage : Stage) (size : ℕ) (bytes : List ℕ) (capacity : ℕ) → FitsFrame stage size bytes capacity → frame_out stage bytes ≡ [] → stage ≡ Open
 open_is Open size bytes capacity fits none = refl
 open_is Regular size bytes capacity fits none = absurd (omega (arith, fits.head, ap length none, length-drop (final_head_length - regular_head_length) bytes))
 open_is Final size bytes capacity fits none = absurd (omega (arith, fits.head, ap length none))
@@ -55,9 +55,9 @@ pub pushed_value : (stage : Stage) (size : ℕ) (bytes more : List ℕ) (capacit
 pushed_value stage size bytes more capacity value fits held none =
     let text : text_in stage (bytes ++ more) ≡ value.text ++ more =
     ap (λ (s : Stage). text_in s (bytes ++ more)) held.open_stage ∙ drop-append-le final_head_length bytes more fits.head ∙ ap (λ (l : List ℕ). l ++ more) (sym held.text_is) in
-    let out : out_in stage (bytes ++ more) ≡ value.out = ap (λ (s : Stage). out_in s (bytes ++ more)) held.open_stage ∙ sym none in
-    ap (λ (n : ℕ). value_with n (text_in stage (bytes ++ more)) (out_in stage (bytes ++ more))) (sym held.size_is)
-    ∙ ap (λ (l : List ℕ). value_with value.size l (out_in stage (bytes ++ more))) text ∙ ap (λ (l : List ℕ). value_with value.size (value.text ++ more) l) out
+    let out : frame_out stage (bytes ++ more) ≡ value.out = ap (λ (s : Stage). frame_out s (bytes ++ more)) held.open_stage ∙ sym none in
+    ap (λ (n : ℕ). value_with n (text_in stage (bytes ++ more)) (frame_out stage (bytes ++ more))) (sym held.size_is)
+    ∙ ap (λ (l : List ℕ). value_with value.size l (frame_out stage (bytes ++ more))) text ∙ ap (λ (l : List ℕ). value_with value.size (value.text ++ more) l) out
 
 -- a frame that was sealed
 pub sealed_value : (size : ℕ) (frame : List ℕ) (value : FrameValue) (out : List ℕ) → value.size ≡ size → frame ≡ out

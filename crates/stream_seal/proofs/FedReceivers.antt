@@ -8,8 +8,8 @@ use Rattle.stream_seal.specs.declared.errors.SealError.{SealError}
 use Rattle.stream_seal.specs.declared.errors.SealError.TheVariants as errors
 use Rattle.stream_seal.specs.declared.session.Sealer.{Sealer}
 use Rattle.stream_seal.specs.Feeding.{IsFeeding}
-use Rattle.stream_seal.specs.Receiving.{FedWhole, FeedsOn, FeedsPiece, Finishes, GivesOut}
-use Rattle.stream_seal.specs.Session.{SealingValue, IsNotMemory, finish_answer, finished, stepped}
+use Rattle.stream_seal.specs.Receiving.{SealerFedWhole, FeedsOn, FeedsSealerPiece, SealerFinishes, SealerGivesOut}
+use Rattle.stream_seal.specs.Session.{SealingValue, IsNotMemory, sealing_finish_answer, sealing_finished, sealing_stepped}
 use Rattle.stream_seal.specs.Stands.{Stands, FeedsStill}
 use Rattle.stream_seal.proofs.Feeding.{goes_on}
 use Rattle.stream_seal.proofs.Standing.{finish_on, finish_stopped}
@@ -36,13 +36,13 @@ some_of_none rest empty is not_empty none =
 -- ---- a session that is finished
 
 -- once, where it hadn't stopped
-finishes_on : (v : SealingValue) (b : Bool) → v.stopped ≡ b → finish_answer v ≡ Ok tt
+finishes_on : (v : SealingValue) (b : Bool) → v.stopped ≡ b → sealing_finish_answer v ≡ Ok tt
     → v.stopped ≡ false
 finishes_on v false is answer = is
 finishes_on v true is answer = absurd (let stopped = sym (finish_stopped v is) ∙ answer in cc)
 
 finishes_not : (v : SealingValue) (b : Bool) (error : SealError) → v.stopped ≡ b
-    → finish_answer v ≡ Err error → (v.stopped ≡ true) × (errors.Stopped ≡ error)
+    → sealing_finish_answer v ≡ Err error → (v.stopped ≡ true) × (errors.Stopped ≡ error)
 finishes_not v true error is answer =
     let stopped : Err errors.Stopped ≡ Err error = sym (finish_stopped v is) ∙ answer in (is, cc)
 finishes_not v false error is answer = absurd (let on = sym (finish_on v is) ∙ answer in cc)
@@ -68,7 +68,7 @@ module _ {R E : Type 0} (takes : R → R → List ℕ → Type 0) (fails : R →
 
     -- nothing is left
     pub feeding_ends : (v : SealingValue) (piece : List ℕ) (output now : R) (sealer : Sealer)
-        → Feeding v piece output now sealer [] → FedWhole takes v piece output now sealer
+        → Feeding v piece output now sealer [] → SealerFedWhole takes v piece output now sealer
     feeding_ends v piece output now sealer feeding =
         let end = still_arrives v piece sealer feeding.given feeding.still in
         record {
@@ -81,7 +81,7 @@ module _ {R E : Type 0} (takes : R → R → List ℕ → Type 0) (fails : R →
     pub fails_on : (v : SealingValue) (piece : List ℕ) (old mid now : R) (sealer : Sealer)
         (given bytes : List ℕ) (error : FeedError SealError E) → ((r s t : R) (xs ys : List ℕ) (e : E)
         → takes r s xs → fails s t ys e → fails r t (xs ++ ys) e) → takes old mid given
-        → GivesOut {T = Unit {0}} takes fails bytes mid now (Err error)
+        → SealerGivesOut {T = Unit {0}} takes fails bytes mid now (Err error)
         → FeedsOn {T = Unit {0}} takes fails v piece old now sealer (Err error)
     fails_on v piece old mid now sealer given bytes (feeds.Receiver error) behind took gives =
         (given ++ bytes, behind old mid now given bytes error took gives.1)
@@ -99,28 +99,28 @@ module _ {R E : Type 0} (takes : R → R → List ℕ → Type 0) (fails : R →
 
     -- the final frame was handed to the receiver
     gives_last : (v : SealingValue) (old now : R) (r : Result (Unit {0}) (FeedError SealError E))
-        → v.stopped ≡ false → GivesOut takes fails (finished v).out old now r
-        → Finishes takes fails v old now r
+        → v.stopped ≡ false → SealerGivesOut takes fails (sealing_finished v).out old now r
+        → SealerFinishes takes fails v old now r
     gives_last v old now (Ok done) on gives = (on, gives.0)
     gives_last v old now (Err (feeds.Receiver error)) on gives = (on, gives.0, gives.1)
     gives_last v old now (Err (feeds.Machine error)) on gives = absurd gives
 
     pub finish_gives : (v : SealingValue) (new : Sealer) (answer : Result (Unit {0}) SealError)
-        (old now : R) (r : Result (Unit {0}) (FeedError SealError E)) → answer ≡ finish_answer v
-        → answer ≡ Ok tt → Stands new (finished v)
-        → ((w : SealingValue) → Stands new w → GivesOut takes fails w.out old now r)
-        → Finishes takes fails v old now r
+        (old now : R) (r : Result (Unit {0}) (FeedError SealError E)) → answer ≡ sealing_finish_answer v
+        → answer ≡ Ok tt → Stands new (sealing_finished v)
+        → ((w : SealingValue) → Stands new w → SealerGivesOut takes fails w.out old now r)
+        → SealerFinishes takes fails v old now r
     finish_gives v new answer old now r answers is stands gives =
         gives_last v old now r (finishes_on v v.stopped refl (sym answers ∙ is))
-        (gives (finished v) stands)
+        (gives (sealing_finished v) stands)
 
     pub finish_fails : (v : SealingValue) (answer : Result (Unit {0}) SealError) (error : SealError)
-        (old : R) → answer ≡ finish_answer v → answer ≡ Err error
-        → Finishes {T = Unit {0}} takes fails v old old (Err (feeds.Machine error))
+        (old : R) → answer ≡ sealing_finish_answer v → answer ≡ Err error
+        → SealerFinishes {T = Unit {0}} takes fails v old old (Err (feeds.Machine error))
     finish_fails v answer error old answers is =
         let stopped = finishes_not v v.stopped error refl (sym answers ∙ is) in
         subst (λ (e : SealError).
-        Finishes {T = Unit {0}} takes fails v old old (Err (feeds.Machine e))) stopped.1
+        SealerFinishes {T = Unit {0}} takes fails v old old (Err (feeds.Machine e))) stopped.1
         (stopped.0, refl)
 
     module _ (v : SealingValue) (piece : List ℕ) (output mid : R) (old new : Sealer)
@@ -129,11 +129,11 @@ module _ {R E : Type 0} (takes : R → R → List ℕ → Type 0) (fails : R →
       -- a step used so many bytes
       steps : (used : ℕ) → answer ≡ Ok used
           → FeedsStill v piece new (drop used rest)
-          (feeding.given ++ (stepped feeding.still.now rest).out)
+          (feeding.given ++ (sealing_stepped feeding.still.now rest).out)
       steps used is =
           let now : SealingValue = feeding.still.now in
           record {
-            now = stepped now rest;
+            now = sealing_stepped now rest;
             stands = step.stands now feeding.still.stands;
             way = goes_on v piece now rest feeding.given used feeding.still.way some
                 (sym (step.answers now feeding.still.stands) ∙ is);
@@ -143,7 +143,7 @@ module _ {R E : Type 0} (takes : R → R → List ℕ → Type 0) (fails : R →
       pub feeding_more : ((r s t : R) (xs ys : List ℕ) → takes r s xs → takes s t ys
           → takes r t (xs ++ ys)) → (now : R) (used : ℕ) → answer ≡ Ok used
           → ((w : SealingValue) → Stands new w
-          → GivesOut {T = Unit {0}} takes fails w.out mid now (Ok tt))
+          → SealerGivesOut {T = Unit {0}} takes fails w.out mid now (Ok tt))
           → Feeding v piece output now new (drop used rest)
       unfolding steps
       feeding_more more now used is gives =
@@ -159,8 +159,8 @@ module _ {R E : Type 0} (takes : R → R → List ℕ → Type 0) (fails : R →
       pub receiver_fails : ((r s t : R) (xs ys : List ℕ) (e : E) → takes r s xs → fails s t ys e
           → fails r t (xs ++ ys) e) → (now : R) (used : ℕ) (error : FeedError SealError E)
           → answer ≡ Ok used → ((w : SealingValue) → Stands new w
-          → GivesOut {T = Unit {0}} takes fails w.out mid now (Err error))
-          → FeedsPiece {T = Unit {0}} takes fails v piece output now new (Err error)
+          → SealerGivesOut {T = Unit {0}} takes fails w.out mid now (Err error))
+          → FeedsSealerPiece {T = Unit {0}} takes fails v piece output now new (Err error)
       unfolding steps
       receiver_fails behind now used (feeds.Receiver error) is gives =
           let still = steps used is in
@@ -177,7 +177,7 @@ module _ {R E : Type 0} (takes : R → R → List ℕ → Type 0) (fails : R →
 
       -- a step failed
       pub step_fails : (error : SealError) → answer ≡ Err error
-          → FeedsPiece {T = Unit {0}} takes fails v piece output mid new (Err (feeds.Machine error))
+          → FeedsSealerPiece {T = Unit {0}} takes fails v piece output mid new (Err (feeds.Machine error))
       step_fails (errors.Refusal refusal) is =
           let end = still_fails v piece old new rest feeding.given answer (errors.Refusal refusal)
           feeding.still some step is in

@@ -5,10 +5,10 @@ use Rattle.stream_seal.specs.declared.declared_length.Declared.{Declared}
 use Rattle.stream_seal.specs.declared.errors.SealError.{SealError}
 use Rattle.stream_seal.specs.declared.errors.SealError.TheVariants as errors
 use Rattle.stream_seal.specs.declared.session.Sealer.{Sealer}
-use Rattle.stream_seal.specs.DeclaredLength.{spent, within}
+use Rattle.stream_seal.specs.DeclaredLength.{spent, declared_within}
 use Rattle.stream_seal.specs.Feeding.{IsFeeding, IsOnTheWay, StepFeeds}
 use Rattle.stream_seal.specs.FrameBuffer.{FrameValue}
-use Rattle.stream_seal.specs.Session.{SealingValue, Doing, Stops, Gives, Takes, after_doing, answer_of, doing, step_answer, stepped}
+use Rattle.stream_seal.specs.Session.{SealingValue, Doing, Stops, Gives, Takes, after_doing, answer_of, doing, sealing_step_answer, sealing_stepped}
 use Rattle.stream_seal.specs.Stands.{Stands, FeedsStill, FeedsNoMore, FeedFails, StillSeals}
 use Rattle.stream_seal.proofs.Feeding.{arrives, begins, fails, goes_on}
 use Rattle.stream_seal.proofs.FeedingSteps.{step_feeds}
@@ -18,8 +18,8 @@ use Rattle.stream_seal.proofs.Refusing.{stopped_only}
 
 -- what `step` says of a sealer before and after it
 pub record Stepped (old new : Sealer) (rest : List ℕ) (answer : Result ℕ SealError) : Type 0 where
-  pub answers : (v : SealingValue) → Stands old v → answer ≡ step_answer v rest
-  pub stands : (v : SealingValue) → Stands old v → Stands new (stepped v rest)
+  pub answers : (v : SealingValue) → Stands old v → answer ≡ sealing_step_answer v rest
+  pub stands : (v : SealingValue) → Stands old v → Stands new (sealing_stepped v rest)
 
 pub still_begins : (v : SealingValue) (piece : List ℕ) (sealer : Sealer) → Stands sealer v → IsFeeding v piece → FeedsStill v piece sealer piece []
 still_begins v piece sealer stands is = record { now = v; stands = stands; way = begins v piece is }
@@ -27,7 +27,7 @@ still_begins v piece sealer stands is = record { now = v; stands = stands; way =
 pub still_goes : (v : SealingValue) (piece : List ℕ) (old new : Sealer) (rest given out : List ℕ) (answer : Result ℕ SealError) (used : ℕ) → FeedsStill v piece old rest given → 1 ≤ length rest
     → Stepped old new rest answer → ((w : SealingValue) → Stands new w → out ≡ w.out) → answer ≡ Ok used → FeedsStill v piece new (drop used rest) (given ++ out)
 still_goes v piece old new rest given out answer used still some step gave is =
-    let next : SealingValue = stepped still.now rest in
+    let next : SealingValue = sealing_stepped still.now rest in
     let stands : Stands new next = step.stands still.now still.stands in
     record {
       now = next;
@@ -47,9 +47,9 @@ still_fails v piece old new rest given answer (errors.Refusal refusal) still som
     let end = fails v piece still.now rest given refusal still.way some (sym (step.answers still.now still.stands) ∙ is) in
     record { stands = subst (λ (w : SealingValue). Stands new w) end.end (step.stands still.now still.stands); why = end.why; out = end.out }
 still_fails v piece old new rest given answer errors.Stopped still some step is =
-    subst (λ (r : Result ℕ SealError). StepFeeds still.now rest (stepped still.now rest) r) (sym (step.answers still.now still.stands) ∙ is) (step_feeds still.now rest still.way.feeding some)
+    subst (λ (r : Result ℕ SealError). StepFeeds still.now rest (sealing_stepped still.now rest) r) (sym (step.answers still.now still.stands) ∙ is) (step_feeds still.now rest still.way.feeding some)
 still_fails v piece old new rest given answer errors.Memory still some step is =
-    subst (λ (r : Result ℕ SealError). StepFeeds still.now rest (stepped still.now rest) r) (sym (step.answers still.now still.stands) ∙ is) (step_feeds still.now rest still.way.feeding some)
+    subst (λ (r : Result ℕ SealError). StepFeeds still.now rest (sealing_stepped still.now rest) r) (sym (step.answers still.now still.stands) ∙ is) (step_feeds still.now rest still.way.feeding some)
 
 -- ---- a session that goes on
 
@@ -73,14 +73,14 @@ pub going_more : (v : SealingValue) (piece : List ℕ) (old new : Sealer) (rest 
     → Stepped old new rest answer → answer ≡ Ok used → GoesOn v piece new (drop used rest)
 going_more v piece old new rest answer used goes some step is =
     let now : SealingValue = goes.session in
-    let steps : step_answer now rest ≡ Ok used = sym (step.answers now goes.stands) ∙ is in
+    let steps : sealing_step_answer now rest ≡ Ok used = sym (step.answers now goes.stands) ∙ is in
     record {
-      session = stepped now rest;
+      session = sealing_stepped now rest;
       stands = step.stands now goes.stands;
       on = stays_on now rest (doing now rest) used goes.on steps;
       way = λ is_feeding.
           (let way = goes.way is_feeding in
-          (way.0 ++ (stepped now rest).out, goes_on v piece now rest way.0 used way.1 some steps));
+          (way.0 ++ (sealing_stepped now rest).out, goes_on v piece now rest way.0 used way.1 some steps));
     }
 
 pub going_ends : (v : SealingValue) (piece : List ℕ) (sealer : Sealer) → GoesOn v piece sealer [] → StillSeals v piece sealer
@@ -95,7 +95,7 @@ going_ends v piece sealer goes = record {
 pub going_fails : (v : SealingValue) (piece : List ℕ) (old new : Sealer) (rest : List ℕ) (answer : Result ℕ SealError) (error : SealError) → GoesOn v piece old rest → Stepped old new rest answer
     → answer ≡ Err error → error ≡ errors.Stopped → ⊥
 going_fails v piece old new rest answer error goes step is stopped =
-    let steps : step_answer goes.session rest ≡ Err error = sym (step.answers goes.session goes.stands) ∙ is in
+    let steps : sealing_step_answer goes.session rest ≡ Err error = sym (step.answers goes.session goes.stands) ∙ is in
     let off : true ≡ false = sym (stopped_only goes.session rest (steps ∙ ap (λ (e : SealError). Err e) stopped)) ∙ goes.on in cc
 
 -- ---- it ends
@@ -119,10 +119,10 @@ gives_less old new count some full none =
     rw (before, now) (omega arith)
 
 -- while not all declared bytes came, some of some can be taken
-pub some_within : (declared : Option Declared) (count : ℕ) → spent declared ≡ None → 1 ≤ count → 1 ≤ within declared count
+pub some_within : (declared : Option Declared) (count : ℕ) → spent declared ≡ None → 1 ≤ count → 1 ≤ declared_within declared count
 some_within None count unspent some = some
 some_within (Some d) count unspent some = by_test (d.left == 0) refl unspent
   where
-    by_test : (b : Bool) → (d.left == 0) ≡ b → (if b then Some d.whole else None) ≡ None → 1 ≤ within (Some d) count
+    by_test : (b : Bool) → (d.left == 0) ≡ b → (if b then Some d.whole else None) ≡ None → 1 ≤ declared_within (Some d) count
     by_test true none is = absurd (cc)
     by_test false more is = let left = eqb-false d.left 0 more in omega (arith, left)

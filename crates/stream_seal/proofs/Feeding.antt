@@ -11,10 +11,10 @@ use Rattle.body_format.proofs.Ranges.{flat_map_add}
 use Rattle.keyring_trait.specs.Materials.{EncMaterialsValue}
 use Rattle.stream_seal.specs.declared.errors.SealError.{SealError}
 use Rattle.stream_seal.specs.declared.errors.SealError.TheVariants as errors
-use Rattle.stream_seal.specs.Session.{SealingValue, beginning, finished, held, new_session, step_answer, stepped, under_of}
+use Rattle.stream_seal.specs.Session.{SealingValue, beginning, sealing_finished, held, new_sealing_session, sealing_step_answer, sealing_stepped, under_of}
 use Rattle.stream_seal.specs.Start.{message_of, most_text}
 use Rattle.stream_seal.specs.Laws.{HoldsSome, IsSameMessage}
-use Rattle.stream_seal.specs.Feeding.{frames_given, most_of, most_taken, over_of, feed_refusal, frames_behind, fed_out, given_so_far, IsFed, IsFeeding, StepsOn, StepsNot, StepFeeds, HasFed, IsOnTheWay, HasEnded, FillsMessage, HoldsTheLast, IsLeast, Feeds, RefusesPiece, BeginsFed}
+use Rattle.stream_seal.specs.Feeding.{frames_given, most_of, most_taken, over_of, feed_refusal, frames_behind, fed_out, given_so_far, SealerIsFed, IsFeeding, SealerStepsOn, StepsNot, StepFeeds, HasFed, IsOnTheWay, HasEnded, FillsMessage, HoldsTheLast, IsLeastCount, FeedsToSealer, RefusesPiece, BeginsFed}
 use Rattle.stream_seal.proofs.AnyCut.{message_is}
 use Rattle.stream_seal.proofs.FeedingSteps.{fed_with, out_with, refusal_with, fed_is, refusal_is, out_is, refusal_none, frames_none, front_taken, step_feeds}
 use Rattle.stream_seal.proofs.Frames.{LeavesOne, body_of, frames_front}
@@ -23,10 +23,10 @@ use Rattle.stream_seal.proofs.Standing.{finished_on}
 
 -- ---- the end of a piece
 
-pub is_feeding : (v : SealingValue) (rest : List ℕ) → IsFed v → IsFeeding v rest
+pub is_feeding : (v : SealingValue) (rest : List ℕ) → SealerIsFed v → IsFeeding v rest
 is_feeding v rest is = record { wide = is.wide; on = is.on; short = is.short; stage = inl (is.handed, is.quiet) }
 
-nothing_left : (v : SealingValue) → IsFeeding v [] → IsFed v
+nothing_left : (v : SealingValue) → IsFeeding v [] → SealerIsFed v
 nothing_left v f = elim f.stage [
   | inl given ↦ record { wide = f.wide; on = f.on; short = f.short; handed = given.0; quiet = given.1 }
   | inr awaits ↦ absurd (omega (arith, awaits.more))
@@ -34,7 +34,7 @@ nothing_left v f = elim f.stage [
 
 pub feeding_ends : (v : SealingValue) → IsFeeding v [] → HasFed v
 feeding_ends v f =
-    let is : IsFed v = nothing_left v f in
+    let is : SealerIsFed v = nothing_left v f in
     let all : List ℕ = v.taken ++ [] in
     let same : all ≡ v.taken = append-nil v.taken in
     let text : take (most_taken v) all ≡ v.taken = ap (take (most_taken v)) same ∙ take_all (most_taken v) v.taken is.short in
@@ -53,21 +53,21 @@ feeding_ends v f =
 
 -- ---- on the way
 
-pub goes_on : (v : SealingValue) (piece : List ℕ) (now : SealingValue) (rest given : List ℕ) (used : ℕ) → IsOnTheWay v piece now rest given → 1 ≤ length rest → step_answer now rest ≡ Ok used
-    → IsOnTheWay v piece (stepped now rest) (drop used rest) (given ++ (stepped now rest).out)
+pub goes_on : (v : SealingValue) (piece : List ℕ) (now : SealingValue) (rest given : List ℕ) (used : ℕ) → IsOnTheWay v piece now rest given → 1 ≤ length rest → sealing_step_answer now rest ≡ Ok used
+    → IsOnTheWay v piece (sealing_stepped now rest) (drop used rest) (given ++ (sealing_stepped now rest).out)
 goes_on v piece now rest given used way some is =
-    let on : StepsOn now rest (stepped now rest) used = subst (λ (r : Result ℕ SealError). StepFeeds now rest (stepped now rest) r) is (step_feeds now rest way.feeding some) in
+    let on : SealerStepsOn now rest (sealing_stepped now rest) used = subst (λ (r : Result ℕ SealError). StepFeeds now rest (sealing_stepped now rest) r) is (step_feeds now rest way.feeding some) in
     record {
       feeding = on.feeding;
       same = on.same ∙ way.same;
       same_refusal = on.same_refusal ∙ way.same_refusal;
-      out = way.out ∙ ap (λ (l : List ℕ). given ++ l) on.out ∙ sym (append_assoc given (stepped now rest).out (fed_out (stepped now rest) (drop used rest)));
+      out = way.out ∙ ap (λ (l : List ℕ). given ++ l) on.out ∙ sym (append_assoc given (sealing_stepped now rest).out (fed_out (sealing_stepped now rest) (drop used rest)));
     }
 
 pub fails : (v : SealingValue) (piece : List ℕ) (now : SealingValue) (rest given : List ℕ) (refusal : Refusal) → IsOnTheWay v piece now rest given → 1 ≤ length rest
-    → step_answer now rest ≡ Err (errors.Refusal refusal) → HasEnded v piece (stepped now rest) given (Some refusal)
+    → sealing_step_answer now rest ≡ Err (errors.Refusal refusal) → HasEnded v piece (sealing_stepped now rest) given (Some refusal)
 fails v piece now rest given refusal way some is =
-    let not_on : StepsNot now rest (stepped now rest) refusal = subst (λ (r : Result ℕ SealError). StepFeeds now rest (stepped now rest) r) is (step_feeds now rest way.feeding some) in
+    let not_on : StepsNot now rest (sealing_stepped now rest) refusal = subst (λ (r : Result ℕ SealError). StepFeeds now rest (sealing_stepped now rest) r) is (step_feeds now rest way.feeding some) in
     record {
       why = sym way.same_refusal ∙ not_on.why;
       end = not_on.end ∙ way.same;
@@ -158,17 +158,17 @@ last_held v wide handed =
     ∙ ap (λ (l : List ℕ). beginning v ++ l) (body_of v.size (under_of v) v.taken v.handed wide leaves)
     ∙ sym (append_assoc (beginning v) (regular_frames v.size (under_of v) v.taken v.handed) (final_frame (under_of v) (v.handed + 1) (held v)))
 
-pub finishes : (v : SealingValue) → IsFed v → given_so_far v ++ (finished v).out ≡ message_of v.materials v.size v.id v.taken
+pub finishes : (v : SealingValue) → SealerIsFed v → given_so_far v ++ (sealing_finished v).out ≡ message_of v.materials v.size v.id v.taken
 finishes v is = ap (λ (w : SealingValue). given_so_far v ++ w.out) (finished_on v is.on) ∙ sym (last_held v is.wide is.handed)
 
 none_given : (size : ℕ) → 1 ≤ size → 0 ≡ frames_given 0 size
 none_given size wide = sym (given_is 0 size 0 wide (record { low = omega arith; high = omega arith; rest = λ some. absurd (omega arith) }))
 
-pub begin_fed : (m : EncMaterialsValue) (declared : Option ℕ) (size : ℕ) (id : List ℕ) → 1 ≤ size → BeginsFed (new_session m declared size id)
+pub begin_fed : (m : EncMaterialsValue) (declared : Option ℕ) (size : ℕ) (id : List ℕ) → 1 ≤ size → BeginsFed (new_sealing_session m declared size id)
 unfolding given_so_far regular_frames
 begin_fed m declared size id wide = record {
   is_fed = record { wide = wide; on = refl; short = omega arith; handed = none_given size wide; quiet = refl };
-  given = append-nil (beginning (new_session m declared size id));
+  given = append-nil (beginning (new_sealing_session m declared size id));
 }
 
 -- more frames of a text
@@ -183,7 +183,7 @@ frames_since size u text taken more m n is low few =
     ap (regular_frames size u text) e ∙ frames_add size u text m (n - m)
     ∙ ap (λ (l : List ℕ). l ++ frames_behind size u text m (n - m)) (ap (λ (t : List ℕ). regular_frames size u t m) is ∙ frames_front size u taken more m low)
 
-given_with : (v : SealingValue) (all : List ℕ) → IsFed v → (more : List ℕ) → take (most_taken v) all ≡ v.taken ++ more
+given_with : (v : SealingValue) (all : List ℕ) → SealerIsFed v → (more : List ℕ) → take (most_taken v) all ≡ v.taken ++ more
     → given_so_far (fed_with v all) ≡ given_so_far v ++ out_with v all
 unfolding given_so_far
 given_with v all is more front =
@@ -194,7 +194,7 @@ given_with v all is more front =
     (frames_since v.size (under_of v) text v.taken more v.handed (frames_given (length text) v.size) front are.low (given_more (length v.taken) v.size v.handed (length text) is.wide are longer))
     ∙ sym (append_assoc (beginning v) (regular_frames v.size (under_of v) v.taken v.handed) (out_with v all))
 
-whole_with : (v : SealingValue) (all : List ℕ) → IsFed v → refusal_with v all ≡ None → (take (most_taken v) all ≡ all) × IsFed (fed_with v all)
+whole_with : (v : SealingValue) (all : List ℕ) → SealerIsFed v → refusal_with v all ≡ None → (take (most_taken v) all ≡ all) × SealerIsFed (fed_with v all)
 whole_with v all is why =
     let few : length all ≤ most_taken v = (none_by v.declared (most_text v.size) (length all)).0 why in
     let text : take (most_taken v) all ≡ all = take_all (most_taken v) all few in
@@ -222,7 +222,7 @@ full_with v all wide why =
 pub begins : (v : SealingValue) (piece : List ℕ) → IsFeeding v piece → IsOnTheWay v piece v piece []
 begins v piece is = record { feeding = is; same = refl; same_refusal = refl; out = refl }
 
-pub feeds : (v : SealingValue) (piece : List ℕ) → IsFed v → Feeds v piece
+pub feeds : (v : SealingValue) (piece : List ℕ) → SealerIsFed v → FeedsToSealer v piece
 feeds v piece is =
     let all : List ℕ = v.taken ++ piece in
     let now : SealingValue = fed_with v all in
@@ -232,13 +232,13 @@ feeds v piece is =
       same = subst (λ (w : SealingValue). IsSameMessage v w) (sym (fed_is v piece)) (record { materials = refl; declared = refl; size = refl; id = refl });
       taken = ap (λ (w : SealingValue). w.taken) (fed_is v piece);
       given = ap given_so_far (fed_is v piece) ∙ given_with v all is more (front_taken (most_taken v) v.taken piece is.short) ∙ ap (λ (l : List ℕ). given_so_far v ++ l) (sym (out_is v piece));
-      least = subst (λ (w : SealingValue). IsLeast (length w.taken) v.size w.handed) (sym (fed_is v piece)) (least_is (length now.taken) v.size now.handed is.wide (are_given (length now.taken) v.size is.wide));
+      least = subst (λ (w : SealingValue). IsLeastCount (length w.taken) v.size w.handed) (sym (fed_is v piece)) (least_is (length now.taken) v.size now.handed is.wide (are_given (length now.taken) v.size is.wide));
       some = subst (λ (w : SealingValue). HoldsSome w) (sym (fed_is v piece)) (some_held now is.wide refl);
       full = λ why. subst (λ (w : SealingValue). FillsMessage w) (sym (fed_is v piece)) (full_with v all is.wide (sym (refusal_is v piece) ∙ why));
       last = subst (λ (w : SealingValue). HoldsTheLast w) (sym (fed_is v piece)) (last_held now is.wide refl);
       whole = λ why.
           let fits = whole_with v all is (sym (refusal_is v piece) ∙ why) in
-          (ap (λ (w : SealingValue). w.taken) (fed_is v piece) ∙ fits.0, subst (λ (w : SealingValue). IsFed w) (sym (fed_is v piece)) fits.1);
+          (ap (λ (w : SealingValue). w.taken) (fed_is v piece) ∙ fits.0, subst (λ (w : SealingValue). SealerIsFed w) (sym (fed_is v piece)) fits.1);
     }
 
 -- where no length is declared

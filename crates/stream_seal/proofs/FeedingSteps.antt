@@ -13,9 +13,9 @@ use Rattle.frame_codec.specs.Written.{regular_frame}
 use Rattle.body_format.specs.Written.{piece, regular_frames}
 use Rattle.stream_seal.specs.declared.errors.SealError.{SealError}
 use Rattle.stream_seal.specs.declared.errors.SealError.TheVariants as errors
-use Rattle.stream_seal.specs.Session.{SealingValue, Stops, Gives, Takes, answer_of, after_doing, beginning, doing, held, spent_of, step_answer, stepped, under_of, within_of}
+use Rattle.stream_seal.specs.Session.{SealingValue, Stops, Gives, Takes, answer_of, after_doing, beginning, doing, held, spent_of, sealing_step_answer, sealing_stepped, under_of, within_of}
 use Rattle.stream_seal.specs.Start.{most_frames, most_text}
-use Rattle.stream_seal.specs.Feeding.{frames_given, most_taken, over_of, feed_refusal, fed, frames_behind, fed_out, given_so_far, IsFeeding, work_left, StepsOn, StepsNot, StepFeeds}
+use Rattle.stream_seal.specs.Feeding.{frames_given, most_taken, over_of, feed_refusal, fed, frames_behind, fed_out, given_so_far, IsFeeding, work_left, SealerStepsOn, StepsNot, StepFeeds}
 use Rattle.stream_seal.proofs.Doing.{GoesOn, doing_spent, doing_takes, doing_last, doing_gives, within_most}
 use Rattle.stream_seal.proofs.Refusing.{within_some}
 use Rattle.stream_seal.proofs.Frames.{frames_front, frames_more}
@@ -108,7 +108,7 @@ sound v rest f =
 -- ---- a step that fails
 
 quiet_stop : (v : SealingValue) (rest : List ℕ) (refusal : Refusal) → IsFeeding v rest → 1 ≤ length rest → IsMost v.declared (most_text v.size) (length v.taken) refusal
-    → doing v rest ≡ Stops (errors.Refusal refusal) → StepsNot v rest (stepped v rest) refusal
+    → doing v rest ≡ Stops (errors.Refusal refusal) → StepsNot v rest (sealing_stepped v rest) refusal
 quiet_stop v rest refusal f some most does =
     let all : List ℕ = v.taken ++ rest in
     let long : length all ≡ length v.taken + length rest = length-append v.taken rest in
@@ -151,18 +151,18 @@ one_at_most false = omega arith
 work_less : (v now : SealingValue) (count used : ℕ) → used ≤ count → 1 ≤ used → work_left now (count - used) < work_left v count
 work_less v now count used within some = omega (arith, one_at_most (length (held now) == now.size))
 
-takes : (v : SealingValue) (rest : List ℕ) (count : ℕ) → IsFeeding v rest → CanTake v rest count → doing v rest ≡ Takes count → StepsOn v rest (stepped v rest) count
+takes : (v : SealingValue) (rest : List ℕ) (count : ℕ) → IsFeeding v rest → CanTake v rest count → doing v rest ≡ Takes count → SealerStepsOn v rest (sealing_stepped v rest) count
 takes v rest count f can does =
     let is = sound v rest f in
     let more : List ℕ = take count rest in
     let now : SealingValue = record v { taken = v.taken ++ more; out = [] } in
-    let is_now : stepped v rest ≡ now = ap (after_doing v rest) does in
+    let is_now : sealing_stepped v rest ≡ now = ap (after_doing v rest) does in
     let long : length more ≡ count = length-take-le count rest can.within in
     let sum : length (v.taken ++ more) ≡ length v.taken + count = omega (arith, length-append v.taken more, long) in
     let all : (v.taken ++ more) ++ drop count rest ≡ v.taken ++ rest = append_assoc v.taken more (drop count rest) ∙ ap (λ (l : List ℕ). v.taken ++ l) (take-append-drop count rest) in
     let given : v.handed ≡ frames_given (length (v.taken ++ more)) v.size =
     sym (given_is (length (v.taken ++ more)) v.size v.handed f.wide (record { low = omega (arith, is.low, sum); high = omega (arith, is.holds, can.room, is.low, sum); rest = λ some. omega (arith, is.low, sum, can.some) })) in
-    subst (λ (w : SealingValue). StepsOn v rest w count) (sym is_now) (record {
+    subst (λ (w : SealingValue). SealerStepsOn v rest w count) (sym is_now) (record {
       within = can.within;
       feeding = record { wide = f.wide; on = f.on; short = omega (arith, sum, can.short); stage = inl (given, refl) };
       same = fed_is now (drop count rest) ∙ ap (fed_with v) all ∙ sym (fed_is v rest);
@@ -188,12 +188,12 @@ given_frame v full =
     ∙ sym (append_assoc (beginning v) (regular_frames v.size (under_of v) v.taken v.handed) (regular_frame (under_of v) (v.handed + 1) (held v)))
 
 gives : (v : SealingValue) (rest : List ℕ) → IsFeeding v rest → 1 ≤ length rest → length (held v) ≡ v.size → length v.taken < most_taken v → doing v rest ≡ Gives
-    → StepsOn v rest (stepped v rest) 0
+    → SealerStepsOn v rest (sealing_stepped v rest) 0
 gives v rest f some full room does =
     let is = sound v rest f in
     let frame : List ℕ = regular_frame (under_of v) (v.handed + 1) (held v) in
     let now : SealingValue = record v { handed = v.handed + 1; out = frame } in
-    let is_now : stepped v rest ≡ now = ap (after_doing v rest) does in
+    let is_now : sealing_stepped v rest ≡ now = ap (after_doing v rest) does in
     let product : (v.handed + 1) * v.size ≡ v.handed * v.size + v.size = omega arith in
     let all : length v.taken ≡ (v.handed + 1) * v.size = omega (arith, is.holds, is.low, full) in
     let text : List ℕ = take (most_taken v) (v.taken ++ rest) in
@@ -202,7 +202,7 @@ gives v rest f some full room does =
     let later : v.handed + 1 ≤ frames_given (length text) v.size = given_next (length text) v.size v.handed f.wide (omega (arith, all, longer)) in
     let count : frames_given (length text) v.size - v.handed ≡ suc (frames_given (length text) v.size - (v.handed + 1)) = omega (arith, later) in
     let content : piece v.size text v.handed ≡ held v = ap (λ (t : List ℕ). piece v.size t v.handed) front ∙ frame_held v.size v.taken (take (most_taken v - length v.taken) rest) v.handed is.low full in
-    subst (λ (w : SealingValue). StepsOn v rest w 0) (sym is_now) (record {
+    subst (λ (w : SealingValue). SealerStepsOn v rest w 0) (sym is_now) (record {
       within = omega arith;
       feeding = record { wide = f.wide; on = f.on; short = f.short; stage = inr (record { none = record { some = omega arith; all = all }; more = some; room = room }) };
       same = fed_is now rest ∙ sym (fed_is v rest);
@@ -225,7 +225,7 @@ gives v rest f some full room does =
 
 -- the frame isn't full
 open_takes : (v : SealingValue) (rest : List ℕ) → IsFeeding v rest → 1 ≤ length rest → spent_of v.declared (length v.taken) ≡ None → length (held v) ≢ v.size
-    → StepFeeds v rest (stepped v rest) (step_answer v rest)
+    → StepFeeds v rest (sealing_stepped v rest) (sealing_step_answer v rest)
 open_takes v rest f some unspent open_now =
     let is = sound v rest f in
     let room : ℕ = most_text v.size in
@@ -243,11 +243,11 @@ open_takes v rest f some unspent open_now =
       room = omega (arith, few, is.holds, is.low, is.high);
       short = most_within v.declared room (length v.taken) step f.short fits;
     } in
-    subst (λ (r : Result ℕ SealError). StepFeeds v rest (stepped v rest) r) (sym (ap answer_of does)) (takes v rest count f can does)
+    subst (λ (r : Result ℕ SealError). StepFeeds v rest (sealing_stepped v rest) r) (sym (ap answer_of does)) (takes v rest count f can does)
 
 -- a full frame is held
 full_goes : (v : SealingValue) (rest : List ℕ) → IsFeeding v rest → 1 ≤ length rest → spent_of v.declared (length v.taken) ≡ None → length (held v) ≡ v.size
-    → StepFeeds v rest (stepped v rest) (step_answer v rest)
+    → StepFeeds v rest (sealing_stepped v rest) (sealing_step_answer v rest)
 full_goes v rest f some unspent full =
     let is = sound v rest f in
     let goes : GoesOn v rest = record { on = f.on; some = λ none. omega (arith, none, some); unspent = unspent } in
@@ -257,26 +257,26 @@ full_goes v rest f some unspent full =
       | inl last ↦
           (let does : doing v rest ≡ Stops (errors.Refusal refusals.TooManyFrames) = doing_last v rest goes full last in
           let room : length v.taken ≡ most_text v.size = all ∙ ap (λ (n : ℕ). n * v.size) last in
-          subst (λ (r : Result ℕ SealError). StepFeeds v rest (stepped v rest) r) (sym (ap answer_of does))
+          subst (λ (r : Result ℕ SealError). StepFeeds v rest (sealing_stepped v rest) r) (sym (ap answer_of does))
           (quiet_stop v rest refusals.TooManyFrames f some (most_full v.declared (most_text v.size) (length v.taken) f.short unspent room) does))
       | inr more ↦
           (let does : doing v rest ≡ Gives = doing_gives v rest goes full more in
           let next : (v.handed + 1 + 1) * v.size ≤ most_frames * v.size = mul-le-mul_right v.size (omega (arith, is.numbered, more)) in
           let two : (v.handed + 1 + 1) * v.size ≡ (v.handed + 1) * v.size + v.size = omega arith in
           let room : length v.taken < most_taken v = most_more v.declared (most_text v.size) (length v.taken) unspent (omega (arith, all, next, f.wide)) in
-          subst (λ (r : Result ℕ SealError). StepFeeds v rest (stepped v rest) r) (sym (ap answer_of does)) (gives v rest f some full room does))
+          subst (λ (r : Result ℕ SealError). StepFeeds v rest (sealing_stepped v rest) r) (sym (ap answer_of does)) (gives v rest f some full room does))
     ]
 
 step_by : (v : SealingValue) (rest : List ℕ) (spent : Option ℕ) → IsFeeding v rest → 1 ≤ length rest → spent_of v.declared (length v.taken) ≡ spent
-    → StepFeeds v rest (stepped v rest) (step_answer v rest)
+    → StepFeeds v rest (sealing_stepped v rest) (sealing_step_answer v rest)
 step_by v rest (Some whole) f some spent =
     let does : doing v rest ≡ Stops (errors.Refusal (refusals.OverDeclared whole)) = doing_spent v rest whole f.on (λ none. omega (arith, none, some)) spent in
-    subst (λ (r : Result ℕ SealError). StepFeeds v rest (stepped v rest) r) (sym (ap answer_of does))
+    subst (λ (r : Result ℕ SealError). StepFeeds v rest (sealing_stepped v rest) r) (sym (ap answer_of does))
     (quiet_stop v rest (refusals.OverDeclared whole) f some (most_spent v.declared (most_text v.size) (length v.taken) whole f.short spent) does)
 step_by v rest None f some unspent = elim (cases_eq (length (held v)) v.size) [
   | inl full ↦ full_goes v rest f some unspent full
   | inr open_now ↦ open_takes v rest f some unspent open_now
 ]
 
-pub step_feeds : (v : SealingValue) (rest : List ℕ) → IsFeeding v rest → 1 ≤ length rest → StepFeeds v rest (stepped v rest) (step_answer v rest)
+pub step_feeds : (v : SealingValue) (rest : List ℕ) → IsFeeding v rest → 1 ≤ length rest → StepFeeds v rest (sealing_stepped v rest) (sealing_step_answer v rest)
 step_feeds v rest f some = step_by v rest (spent_of v.declared (length v.taken)) f some refl

@@ -5,7 +5,7 @@ use Rattle.std.proofs.lemmas.Bool.{cases_lt, eqb-true, eqb-false, le-leb, lt-leb
 use Rattle.esdk_fields.specs.declared.refusals.Refusal.{Refusal}
 use Rattle.esdk_fields.specs.declared.refusals.Refusal.TheVariants as refusals
 use Rattle.body_format.proofs.FrameCounts.{IsCount, count_is, count_unique}
-use Rattle.stream_seal.specs.Feeding.{frames_given, most_of, over_of, IsLeast}
+use Rattle.stream_seal.specs.Feeding.{frames_given, most_of, over_of, IsLeastCount}
 use Rattle.stream_seal.specs.Session.{spent_of, within_of}
 use Rattle.stream_seal.specs.Start.{most_frames, most_text}
 
@@ -33,7 +33,7 @@ given_is count size m wide are =
     omega (arith, count_unique count size (m + 1) wide is)
 
 -- they are the fewest
-pub least_is : (count size m : ℕ) → 1 ≤ size → AreGiven count size m → IsLeast count size m
+pub least_is : (count size m : ℕ) → 1 ≤ size → AreGiven count size m → IsLeastCount count size m
 least_is count size m wide are = record {
   room = let product : (m + 1) * size ≡ m * size + size = omega arith in omega (arith, are.high);
   least = λ k all. elim (cases_lt k m) [

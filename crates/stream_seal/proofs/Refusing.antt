@@ -8,9 +8,9 @@ use Rattle.esdk_fields.specs.declared.refusals.Refusal.TheVariants as refusals
 use Rattle.keyring_trait.specs.Materials.{EncMaterialsValue}
 use Rattle.stream_seal.specs.declared.errors.SealError.{SealError}
 use Rattle.stream_seal.specs.declared.errors.SealError.TheVariants as errors
-use Rattle.stream_seal.specs.Session.{SealingValue, Doing, Stops, Gives, Takes, held, spent_of, within_of, doing, doing_full, doing_on, answer_of, after_doing, new_session, finished, step_answer}
+use Rattle.stream_seal.specs.Session.{SealingValue, Doing, Stops, Gives, Takes, held, spent_of, within_of, doing, doing_full, doing_on, answer_of, after_doing, new_sealing_session, sealing_finished, sealing_step_answer}
 use Rattle.stream_seal.specs.Start.{most_frames, most_text}
-use Rattle.stream_seal.specs.Laws.{Event, Step, Finish, after_event, after_all, is_finished_by, is_stopped_by, stops, given_by, IsOffered, IsFull, AnswersExactly, StopsExactlyOf}
+use Rattle.stream_seal.specs.Laws.{SealingEvent, Step, Finish, after_sealing_event, after_sealing_events, is_finished_by, sealing_is_stopped_by, stops, given_by_sealing, IsOffered, IsFull, AnswersExactly, SealingStopsExactlyOf}
 use Rattle.stream_seal.proofs.Doing.{within_most, doing_stopped, doing_spent, doing_last, GoesOn}
 use Rattle.stream_seal.proofs.Standing.{finished_stopped, finished_on}
 use Rattle.stream_seal.proofs.AnyCut.{IsKept, kept_all, kept_none, same_all}
@@ -30,11 +30,11 @@ stopped_doing v piece (Stops error) = or_true v.stopped
 stopped_doing v piece Gives = or_false v.stopped
 stopped_doing v piece (Takes count) = or_false v.stopped
 
-stopped_finished : (v : SealingValue) (b : Bool) → v.stopped ≡ b → (finished v).stopped ≡ true
+stopped_finished : (v : SealingValue) (b : Bool) → v.stopped ≡ b → (sealing_finished v).stopped ≡ true
 stopped_finished v true stopped = ap (λ (w : SealingValue). w.stopped) (finished_stopped v stopped) ∙ stopped
 stopped_finished v false on = ap (λ (w : SealingValue). w.stopped) (finished_on v on)
 
-stopped_event : (v : SealingValue) (e : Event) → (after_event v e).stopped ≡ v.stopped || stops v e
+stopped_event : (v : SealingValue) (e : SealingEvent) → (after_sealing_event v e).stopped ≡ v.stopped || stops v e
 stopped_event v (Step piece) = stopped_doing v piece (doing v piece)
 stopped_event v Finish = stopped_finished v v.stopped refl ∙ or_true v.stopped
 
@@ -42,12 +42,12 @@ or_assoc : (a b c : Bool) → (a || b) || c ≡ a || (b || c)
 or_assoc true b c = refl
 or_assoc false b c = refl
 
-stopped_all : (es : List Event) (v : SealingValue) → (after_all es v).stopped ≡ v.stopped || is_stopped_by es v
-unfolding after_all is_stopped_by
+stopped_all : (es : List SealingEvent) (v : SealingValue) → (after_sealing_events es v).stopped ≡ v.stopped || sealing_is_stopped_by es v
+unfolding after_sealing_events sealing_is_stopped_by
 stopped_all [] v = or_false v.stopped
 stopped_all (e ∷ es) v =
-    stopped_all es (after_event v e) ∙ ap (λ (b : Bool). b || is_stopped_by es (after_event v e)) (stopped_event v e)
-    ∙ or_assoc v.stopped (stops v e) (is_stopped_by es (after_event v e))
+    stopped_all es (after_sealing_event v e) ∙ ap (λ (b : Bool). b || sealing_is_stopped_by es (after_sealing_event v e)) (stopped_event v e)
+    ∙ or_assoc v.stopped (stops v e) (sealing_is_stopped_by es (after_sealing_event v e))
 
 -- ---- which error
 
@@ -100,14 +100,14 @@ stops_by v piece (Stops e) error is = let same : e ≡ error = cc in ap Stops sa
 stops_by v piece Gives error is = absurd (cc)
 stops_by v piece (Takes count) error is = absurd (cc)
 
-told : (v : SealingValue) (piece : List ℕ) (error : SealError) → step_answer v piece ≡ Err error → Tells v piece (Stops error)
+told : (v : SealingValue) (piece : List ℕ) (error : SealError) → sealing_step_answer v piece ≡ Err error → Tells v piece (Stops error)
 told v piece error is = subst (λ d. Tells v piece d) (stops_by v piece (doing v piece) error is) (tells v piece)
 
 -- a session that goes on isn't said to have stopped
-pub stopped_only : (v : SealingValue) (piece : List ℕ) → step_answer v piece ≡ Err errors.Stopped → v.stopped ≡ true
+pub stopped_only : (v : SealingValue) (piece : List ℕ) → sealing_step_answer v piece ≡ Err errors.Stopped → v.stopped ≡ true
 stopped_only v piece is = told v piece errors.Stopped is
 
-answered : (v : SealingValue) (piece : List ℕ) (error : SealError) → doing v piece ≡ Stops error → step_answer v piece ≡ Err error
+answered : (v : SealingValue) (piece : List ℕ) (error : SealError) → doing v piece ≡ Stops error → sealing_step_answer v piece ≡ Err error
 answered v piece error is = ap answer_of is
 
 -- ---- the declared length
@@ -232,11 +232,11 @@ refuses v piece ended given wide kept = record {
       (takes_some v piece (omega (arith, length-drop (v.handed * v.size) v.taken, kept.low, kept.high)) offered.some) is;
 }
 
-pub errors_exact : (m : EncMaterialsValue) (declared : Option ℕ) (size : ℕ) (id : List ℕ) (events : List Event) → 1 ≤ size → StopsExactlyOf (new_session m declared size id) events
+pub errors_exact : (m : EncMaterialsValue) (declared : Option ℕ) (size : ℕ) (id : List ℕ) (events : List SealingEvent) → 1 ≤ size → SealingStopsExactlyOf (new_sealing_session m declared size id) events
 errors_exact m declared size id events wide =
-    let begun : SealingValue = new_session m declared size id in
+    let begun : SealingValue = new_sealing_session m declared size id in
     record {
       stopped = stopped_all events begun;
-      answers = λ piece. refuses (after_all events begun) piece (is_finished_by events begun) (given_by events begun) (omega (arith, (same_all events begun).size))
+      answers = λ piece. refuses (after_sealing_events events begun) piece (is_finished_by events begun) (given_by_sealing events begun) (omega (arith, (same_all events begun).size))
           (kept_all events begun false [] (kept_none m declared size id));
     }

@@ -11,9 +11,9 @@ use Rattle.stream_seal.specs.declared.declared_length.Declared.{Declared}
 use Rattle.stream_seal.specs.declared.errors.SealError.{SealError}
 use Rattle.stream_seal.specs.declared.errors.SealError.TheVariants as errors
 use Rattle.stream_seal.specs.declared.session.Sealer.{Sealer}
-use Rattle.stream_seal.specs.DeclaredLength.{declared_after, spent, within, after}
+use Rattle.stream_seal.specs.DeclaredLength.{declared_after, spent, declared_within, after}
 use Rattle.stream_seal.specs.FrameBuffer.{FrameValue}
-use Rattle.stream_seal.specs.Session.{SealingValue, Doing, Gives, Takes, spent_of, within_of, held, doing, answer_of, after_doing, step_answer, stepped, finish_answer, finished, under_of}
+use Rattle.stream_seal.specs.Session.{SealingValue, Doing, Gives, Takes, spent_of, within_of, held, doing, answer_of, after_doing, sealing_step_answer, sealing_stepped, sealing_finish_answer, sealing_finished, under_of}
 use Rattle.stream_seal.specs.Stands.{Stands}
 use Rattle.stream_seal.specs.Start.{most_frames}
 use Rattle.stream_seal.proofs.Doing.{GoesOn}
@@ -24,7 +24,7 @@ spent_is : (declared : Option ℕ) (taken : ℕ) → spent (declared_after decla
 spent_is None taken = refl
 spent_is (Some whole) taken = refl
 
-within_is : (declared : Option ℕ) (taken count : ℕ) → within (declared_after declared taken) count ≡ within_of declared taken count
+within_is : (declared : Option ℕ) (taken count : ℕ) → declared_within (declared_after declared taken) count ≡ within_of declared taken count
 within_is None taken count = refl
 within_is (Some whole) taken count = refl
 
@@ -49,26 +49,26 @@ goes_on old v piece empty o stands on is_empty some is_spent unspent = record {
 
 -- ---- what a call answers, by what it does
 
-pub answers : (v : SealingValue) (piece : List ℕ) (d : Doing) (r : Result ℕ SealError) → doing v piece ≡ d → r ≡ answer_of d → r ≡ step_answer v piece
+pub answers : (v : SealingValue) (piece : List ℕ) (d : Doing) (r : Result ℕ SealError) → doing v piece ≡ d → r ≡ answer_of d → r ≡ sealing_step_answer v piece
 answers v piece d r does is = is ∙ ap answer_of (sym does)
 
-pub stands_after : (next : Sealer) (v : SealingValue) (piece : List ℕ) (d : Doing) → doing v piece ≡ d → Stands next (after_doing v piece d) → Stands next (stepped v piece)
+pub stands_after : (next : Sealer) (v : SealingValue) (piece : List ℕ) (d : Doing) → doing v piece ≡ d → Stands next (after_doing v piece d) → Stands next (sealing_stepped v piece)
 stands_after next v piece d does stands = subst (λ x. Stands next (after_doing v piece x)) (sym does) stands
 
-pub finish_stopped : (v : SealingValue) → v.stopped ≡ true → finish_answer v ≡ Err errors.Stopped
-unfolding finish_answer
+pub finish_stopped : (v : SealingValue) → v.stopped ≡ true → sealing_finish_answer v ≡ Err errors.Stopped
+unfolding sealing_finish_answer
 finish_stopped v stopped = rw stopped refl
 
-pub finish_on : (v : SealingValue) → v.stopped ≡ false → finish_answer v ≡ Ok tt
-unfolding finish_answer
+pub finish_on : (v : SealingValue) → v.stopped ≡ false → sealing_finish_answer v ≡ Ok tt
+unfolding sealing_finish_answer
 finish_on v on = rw on refl
 
-pub finished_stopped : (v : SealingValue) → v.stopped ≡ true → finished v ≡ record v { out = [] }
-unfolding finished
+pub finished_stopped : (v : SealingValue) → v.stopped ≡ true → sealing_finished v ≡ record v { out = [] }
+unfolding sealing_finished
 finished_stopped v stopped = rw stopped refl
 
-pub finished_on : (v : SealingValue) → v.stopped ≡ false → finished v ≡ record v { stopped = true; out = final_frame (under_of v) (v.handed + 1) (held v) }
-unfolding finished
+pub finished_on : (v : SealingValue) → v.stopped ≡ false → sealing_finished v ≡ record v { stopped = true; out = final_frame (under_of v) (v.handed + 1) (held v) }
+unfolding sealing_finished
 finished_on v on = rw on refl
 
 -- ---- what stands after it
@@ -96,7 +96,7 @@ stands_stopped old v frame b stands is stopped = stands_quiet old v frame b true
 
 -- the end of a session that is stopped
 pub stands_still : (old : Sealer) (v : SealingValue) (frame : FrameValue) → Stands old v → frame ≡ record old.frame { out = [] } → v.stopped ≡ true
-    → Stands (record old { frame = frame }) (finished v)
+    → Stands (record old { frame = frame }) (sealing_finished v)
 stands_still old v frame stands is stopped =
     subst (λ w. Stands (record old { frame = frame }) w) (sym (finished_stopped v stopped)) (stands_quiet old v frame old.stopped v.stopped stands is stands.stopped (λ e. e))
 
@@ -165,7 +165,7 @@ stands_gives old v opened frame number piece stands on full is sealed_now next =
 -- the final frame given
 pub stands_finished : (old : Sealer) (v : SealingValue) (opened frame : FrameValue) → Stands old v → v.stopped ≡ false
     → opened ≡ record old.frame { out = [] } → frame ≡ record opened { text = []; out = final_frame (under_with old.key old.message_id) old.number opened.text }
-    → Stands (record old { frame = frame; stopped = true }) (finished v)
+    → Stands (record old { frame = frame; stopped = true }) (sealing_finished v)
 stands_finished old v opened frame stands on is sealed_now = subst (λ w. Stands (record old { frame = frame; stopped = true }) w) (sym (finished_on v on)) (record {
   header = stands.header;
   key = stands.key;
@@ -192,8 +192,8 @@ room_is old v opened room stands on is room_now short =
     let text : opened.text ≡ held v = ap (λ (f : FrameValue). f.text) is ∙ stands.text on in
     record { is = omega (arith, room_now, size, ap length text); within = omega (arith, size, ap length text, short) }
 
-pub used_is : (old : Sealer) (v : SealingValue) (used count : ℕ) → Stands old v → used ≡ within old.declared count → used ≡ within_of v.declared (length v.taken) count
-used_is old v used count stands is = is ∙ ap (λ (d : Option Declared). within d count) stands.declared ∙ within_is v.declared (length v.taken) count
+pub used_is : (old : Sealer) (v : SealingValue) (used count : ℕ) → Stands old v → used ≡ declared_within old.declared count → used ≡ within_of v.declared (length v.taken) count
+used_is old v used count stands is = is ∙ ap (λ (d : Option Declared). declared_within d count) stands.declared ∙ within_is v.declared (length v.taken) count
 
 -- ---- the number of the next frame
 

@@ -13,9 +13,9 @@ spent None = None
 spent (Some d) = if d.left == 0 then Some d.whole else None
 
 -- so many bytes, or as many as are still to come
-abbrev pub within : Option Declared → ℕ → ℕ
-within None count = count
-within (Some d) count = min d.left count
+abbrev pub declared_within : Option Declared → ℕ → ℕ
+declared_within None count = count
+declared_within (Some d) count = min d.left count
 
 -- what is declared after so many more bytes
 abbrev pub after : Option Declared → ℕ → Option Declared

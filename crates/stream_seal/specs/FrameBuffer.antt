@@ -3,7 +3,8 @@ use Rattle.std.specs.Prelude.{ℕ, ◌+◌, ◌-◌, ◌^◌, ◌<◌, ◌≤◌
 use Rattle.stream_seal.specs.declared.frame_buffer.Stage.{Stage}
 use Rattle.stream_seal.specs.declared.frame_buffer.Stage.TheVariants.{Open, Regular, Final}
 
--- how many bytes stand before a final frame's content, and before a regular frame's; how many a tag has
+-- how many bytes stand before a final frame's content, and before a regular frame's; how many a tag
+-- has
 abbrev pub final_head_length : ℕ
 final_head_length = 24
 
@@ -13,7 +14,8 @@ regular_head_length = 16
 abbrev pub tag_length : ℕ
 tag_length = 16
 
--- A frame's content has at most `size` bytes. `text` are those that came of the open frame, `out` is the frame that was sealed last, and nothing once the next one goes on.
+-- A frame's content has at most `size` bytes. `text` are those that came of the open frame, `out`
+-- is the frame that was sealed last, and nothing once the next one goes on.
 pub record FrameValue : Type 0 where
   pub size : ℕ
   pub text : List ℕ
@@ -26,12 +28,13 @@ text_in Regular bytes = []
 text_in Final bytes = []
 
 -- the frame that was sealed: a regular frame's head is shorter, and stands right before the content
-abbrev pub out_in : Stage → List ℕ → List ℕ
-out_in Open bytes = []
-out_in Regular bytes = drop (final_head_length - regular_head_length) bytes
-out_in Final bytes = bytes
+abbrev pub frame_out : Stage → List ℕ → List ℕ
+frame_out Open bytes = []
+frame_out Regular bytes = drop (final_head_length - regular_head_length) bytes
+frame_out Final bytes = bytes
 
--- The head has room before the content, the content has at most the frame length, which isn't 0, and the whole frame fits into the memory that was reserved.
+-- The head has room before the content, the content has at most the frame length, which isn't 0,
+-- and the whole frame fits into the memory that was reserved.
 pub record FitsFrame (stage : Stage) (size : ℕ) (bytes : List ℕ) (capacity : ℕ) : Type 0 where
   pub head : final_head_length ≤ length bytes
   pub short : length (text_in stage bytes) ≤ size

@@ -1,5 +1,6 @@
--- What a message begins with, and why it can't begin. Standard: AWS Encryption SDK Specification, "Encrypt".
-use Rattle.std.specs.Prelude.{◌≡◌, ℕ, ◌-◌, ◌*◌, ◌^◌, List, ◌++◌, ⊤, Option, Some}
+-- What a message begins with, and why it can't begin. Standard: AWS Encryption SDK Specification,
+-- "Encrypt".
+use Rattle.std.specs.Prelude.{◌≡◌, ℕ, ◌-◌, ◌*◌, ◌^◌, List, ◌++◌, ⊤, Option, Some, take, drop}
 use Rattle.esdk_fields.specs.declared.refusals.Refusal.{Refusal}
 use Rattle.context_codec.specs.Parts.{only_of, stored_of}
 use Rattle.context_codec.specs.declared.insert.PairError.{PairError}
@@ -22,7 +23,8 @@ start_of m size id =
     let raw = header_body m.context m.required size m.key m.entries id in
     raw ++ header_tag Committing zero_iv raw (only_of m.required m.context) m.key id
 
--- why such a message can't begin: there are more entries than the limit (Q7), or its header would be too long (Q8)
+-- why such a message can't begin: there are more entries than the limit (Q7), or its header would
+-- be too long (Q8)
 abbrev pub start_refusal : EncMaterialsValue → Option ℕ → List ℕ → Option Refusal
 start_refusal m max_keys id = header_refusal id (stored_of m.required m.context) m.entries max_keys
 
@@ -44,3 +46,10 @@ most_frames = 2 ^ 32 - 1
 -- how many bytes a message has room for
 abbrev pub most_text : ℕ → ℕ
 most_text size = most_frames * size
+
+-- the message id among the bytes drawn, and what the materials are made with
+abbrev pub drawn_id : List ℕ → List ℕ
+drawn_id drawn = take 32 drawn
+
+abbrev pub drawn_rest : List ℕ → List ℕ
+drawn_rest drawn = drop 32 drawn

@@ -1,7 +1,7 @@
 //! A text's declared length.
 
 ghost use Rattle.std.specs.Prelude.{◌≡◌, ◌≤◌, None, length};
-ghost use Rattle.stream_seal.specs.DeclaredLength.{declared_after, within, spent, after};
+ghost use Rattle.stream_seal.specs.DeclaredLength.{declared_after, declared_within, spent, after};
 
 /// How long a text is to be in bytes, and how many of these bytes are still to come.
 #[derive(Clone, Copy)]
@@ -24,7 +24,7 @@ pub(crate) fn spent(declared: Option<Declared>) -> Option<u64>
 
 /// So many bytes, or as many as are still to come where these are fewer.
 pub(crate) fn within(declared: Option<Declared>, count: usize) -> usize
-    ensures count { result ≡ within declared count }
+    ensures count { result ≡ declared_within declared count }
     ensures most { result ≤ count }
 {
     match declared {

@@ -1,6 +1,7 @@
 //! The buffer of one frame.
 
-ghost use Rattle.std.specs.Prelude.{◌≡◌, ◌+◌, ◌-◌, ◌^◌, ◌<◌, ◌≤◌, [], ◌++◌, length, drop, vec_capacity, IfOk};
+ghost use Rattle.std.specs.Prelude.{◌≡◌, ◌+◌, ◌-◌, ◌^◌, ◌<◌, ◌≤◌, [], ◌++◌, length, drop};
+ghost use Rattle.std.specs.Prelude.{vec_capacity, IfOk};
 ghost use Rattle.frame_codec.specs.UnitAad.{iv_of};
 ghost use Rattle.frame_codec.specs.Written.{final_frame, regular_frame, sealed_unit};
 
@@ -41,14 +42,14 @@ pub(crate) struct FrameBuffer {
 
 impl Model for FrameBuffer {
     ghost use Rattle.std.specs.Prelude.{vec_capacity};
-    ghost use Rattle.stream_seal.specs.FrameBuffer.{FrameValue, FitsFrame, text_in, out_in};
+    ghost use Rattle.stream_seal.specs.FrameBuffer.{FrameValue, FitsFrame, text_in, frame_out};
 
     ghost Value = { FrameValue };
 
     ghost view = { λ f. record {
       size = f.size;
       text = text_in f.stage f.bytes.items;
-      out = out_in
+      out = frame_out
           f.stage f.bytes.items;
     } };
 
@@ -222,7 +223,8 @@ fn seal_text(
 fn put_head(head: &[u8], bytes: &mut Vec<u8>)
     requires head { length head.now ≤ 24 }
     requires text { 24 ≤ length bytes.old.items }
-    ensures put { drop (24 - length head.now) bytes.new.items ≡ head.now ++ drop 24 bytes.old.items }
+    ensures put { drop (24 - length head.now) bytes.new.items
+        ≡ head.now ++ drop 24 bytes.old.items }
     ensures len { length bytes.new.items ≡ length bytes.old.items }
     ensures capacity { vec_capacity bytes.old ≤ vec_capacity bytes.new }
 {

@@ -1,7 +1,9 @@
 //! Laws about sealing. A law is a function that does nothing: its contract is what is proved.
 
-ghost use Rattle.stream_seal.specs.Feeding.{BeginFed, FedAnyCut, FeedingEnds, FeedsAllPieces, FeedsPieces, FinishesTheMessage, RefusesPieces, StepsFeed};
-ghost use Rattle.stream_seal.specs.Laws.{SealsAnyCut, StopsExactly};
+ghost use Rattle.stream_seal.specs.Feeding.{BeginFed, FedAnyCut, FeedingEnds, FeedsAllPieces};
+ghost use Rattle.stream_seal.specs.Feeding.{FeedsPieces, FinishesTheMessage, RefusesPieces};
+ghost use Rattle.stream_seal.specs.Feeding.{StepsFeed};
+ghost use Rattle.stream_seal.specs.Laws.{SealsAnyCut, SealingStopsExactly};
 
 /// Whatever the pieces and in whatever order the calls come, what is given is the message of the
 /// text that was taken: its header and first frames while the session goes on, and all of it once
@@ -15,7 +17,7 @@ pub fn any_cut_gives_the_message()
 /// `Stopped`, and else Q10 exactly where a byte is offered beyond those declared, and Q9 exactly
 /// where one is offered beyond those that a message has room for.
 pub fn errors_come_exactly()
-    ensures { StopsExactly }
+    ensures { SealingStopsExactly }
 {}
 
 /// Feeding a piece to its end, by one step after another, each with what the last one left. A step

@@ -1,11 +1,16 @@
 //! A message that is sealed piece by piece.
 
-ghost use Rattle.std.specs.Prelude.{◌≡◌, ◌-◌, ◌<◌, ◌≤◌, true, false, length, [], None, Ok, Err, IfErr, IfOk, OnOk};
+ghost use Rattle.std.specs.Prelude.{◌≡◌, ◌-◌, ◌<◌, ◌≤◌, true, false, length, [], None, Ok, Err};
+ghost use Rattle.std.specs.Prelude.{IfErr, IfOk, OnOk};
 ghost use Rattle.esdk_base.specs.declared.receiver.FeedError.TheVariants.{Machine};
 ghost use Rattle.stream_seal.specs.declared.errors.SealError.TheVariants.{Stopped};
 ghost use Rattle.stream_seal.specs.Feeding.{IsFeeding};
-ghost use Rattle.stream_seal.specs.Receiving.{FeedsOn, FeedsPiece, Finishes, GivesOut};
-ghost use Rattle.stream_seal.specs.Session.{SealingValue, beginning, IsNotMemory, new_session, step_answer, stepped, finish_answer, finished};
+ghost use Rattle.stream_seal.specs.Receiving.{FeedsOn, FeedsSealerPiece, SealerFinishes};
+ghost use Rattle.stream_seal.specs.Receiving.{SealerGivesOut};
+ghost use Rattle.stream_seal.specs.Session.{SealingValue, beginning, IsNotMemory};
+ghost use Rattle.stream_seal.specs.Session.{new_sealing_session, sealing_step_answer};
+ghost use Rattle.stream_seal.specs.Session.{sealing_stepped, sealing_finish_answer};
+ghost use Rattle.stream_seal.specs.Session.{sealing_finished};
 ghost use Rattle.stream_seal.specs.Stands.{Stands, work_of};
 ghost use Rattle.stream_seal.specs.Start.{BeginsNot, start_refusal};
 
@@ -53,7 +58,7 @@ impl Sealer {
     ) -> Result<Sealer, SealError>
         requires some { 1 ≤ frame_length }
         ensures stands { IfOk result (λ sealer. Stands sealer
-            (new_session materials.now declared frame_length message_id.now)) }
+            (new_sealing_session materials.now declared frame_length message_id.now)) }
         ensures taken { OnOk result (start_refusal materials.now max_keys message_id.now ≡ None) }
         ensures cause { IfErr result (BeginsNot (start_refusal materials.now max_keys
             message_id.now)) }
@@ -112,9 +117,10 @@ impl Sealer {
     /// After an error, and after `finish`, it answers `Stopped`, and only then. Any error leaves
     /// `out` empty.
     pub fn step(&mut self, piece: &[u8]) -> Result<usize, SealError>
-        ensures answer { (v : SealingValue) → Stands self.old v → result ≡ step_answer v piece.now }
+        ensures answer { (v : SealingValue) → Stands self.old v
+            → result ≡ sealing_step_answer v piece.now }
         ensures stands { (v : SealingValue) → Stands self.old v
-            → Stands self.new (stepped v piece.now) }
+            → Stands self.new (sealing_stepped v piece.now) }
         ensures within { IfOk result (λ used. used ≤ length piece.now) }
         ensures falls { IfOk result (λ used. 1 ≤ length piece.now
             → work_of self.new (length piece.now - used) < work_of self.old (length piece.now)) }
@@ -157,8 +163,9 @@ impl Sealer {
     /// `Stopped` exactly where an earlier call answered an error or this one was made before; it
     /// leaves `out` empty.
     pub fn finish(&mut self) -> Result<(), SealError>
-        ensures answer { (v : SealingValue) → Stands self.old v → result ≡ finish_answer v }
-        ensures stands { (v : SealingValue) → Stands self.old v → Stands self.new (finished v) }
+        ensures answer { (v : SealingValue) → Stands self.old v → result ≡ sealing_finish_answer v }
+        ensures stands { (v : SealingValue) → Stands self.old v
+            → Stands self.new (sealing_finished v) }
         ensures no_memory { IfErr result IsNotMemory }
     {
         self.frame.go_on();
@@ -186,7 +193,7 @@ impl Sealer {
         output: &mut R,
     ) -> Result<(), FeedError<SealError, R::Error>>
         ensures feeds { (v : SealingValue) → Stands self.old v → IsFeeding v piece.now
-            → FeedsPiece R.takes R.fails v piece.now output.old output.new self.new result }
+            → FeedsSealerPiece R.takes R.fails v piece.now output.old output.new self.new result }
         ensures stopped { (v : SealingValue) → Stands self.old v → v.stopped ≡ true
             → (result ≡ Err (Machine Stopped)) × (output.new ≡ output.old) }
         ensures on { (v : SealingValue) → Stands self.old v → v.stopped ≡ false
@@ -221,8 +228,9 @@ impl Sealer {
         output: &mut R,
     ) -> Result<(), FeedError<SealError, R::Error>>
         ensures ends { (v : SealingValue) → Stands self.old v
-            → Finishes R.takes R.fails v output.old output.new result }
-        ensures stands { (v : SealingValue) → Stands self.old v → Stands self.new (finished v) }
+            → SealerFinishes R.takes R.fails v output.old output.new result }
+        ensures stands { (v : SealingValue) → Stands self.old v
+            → Stands self.new (sealing_finished v) }
     {
         match self.finish() {
             Ok(()) => hand_out(self, output),
@@ -237,7 +245,7 @@ fn hand_out<R: Receiver>(
     output: &mut R,
 ) -> Result<(), FeedError<SealError, R::Error>>
     ensures { (v : SealingValue) → Stands sealer.now v
-        → GivesOut R.takes R.fails v.out output.old output.new result }
+        → SealerGivesOut R.takes R.fails v.out output.old output.new result }
 {
     let out = sealer.out();
     if out.is_empty() {

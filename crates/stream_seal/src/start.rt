@@ -68,7 +68,8 @@ fn body_of_header(
     requires some { 1 ≤ frame_length }
     requires commits { commit_key.now ≡ commitment materials.now.key message_id.now }
     ensures body { IfOk result (λ body. body ≡ header_body materials.now.context
-        materials.now.required frame_length materials.now.key materials.now.entries message_id.now) }
+        materials.now.required frame_length materials.now.key materials.now.entries
+        message_id.now) }
     ensures short { IfOk result (λ body. length body < 2 ^ 25) }
     ensures taken { OnOk result (start_refusal materials.now max_keys message_id.now ≡ None) }
     ensures cause { IfErr result (λ e. RefusesAs e

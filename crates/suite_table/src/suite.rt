@@ -1,7 +1,8 @@
 //! The algorithm suites.
 
 ghost use Rattle.std.specs.Prelude.{◌≡◌};
-ghost use Rattle.suite_table.specs.Suites.{suite_id, suite_with, format_version, id_length, data_length};
+ghost use Rattle.suite_table.specs.Suites.{suite_id, suite_with, format_version, id_length};
+ghost use Rattle.suite_table.specs.Suites.{data_length};
 
 /// A suite whose messages can be read.
 #[derive(Debug, Clone, Copy, PartialEq, Eq)]

@@ -7,10 +7,10 @@ use Rattle.esdk_base.specs.Streams.{FailsToRead, ShelfState}
 use Rattle.whole_input.specs.declared.file.FileError.{FileError}
 use Rattle.whole_input.specs.declared.file.FileError.TheVariants.{Shelf, TooLong, Memory}
 use Rattle.esdk_seen.specs.Calls.{ShelfCall, reads}
-use Rattle.whole_input.specs.FileReads.{ReadsRow, ReadsWhole}
+use Rattle.whole_input.specs.FileReads.{ReadsRow, ReadsWholeFile}
 use Rattle.whole_input.specs.FileReadsLaws.{row_ends, row_more, row_none, row_one}
 use Rattle.whole_input.specs.Pieces.{most_piece}
-use Rattle.whole_input.specs.File.{Adds, FileCause, IsFile, IsFront, IsLong, Piece, most_file}
+use Rattle.whole_input.specs.File.{Adds, FileCause, IsFile, IsFront, IsLong, FilePieceIsRead, most_file}
 
 -- Where the shelf tells, these bytes are the file's front; if there are any, the file is there. Just so many were given, and no read failed.
 pub record Adding (first now : ShelfState) (name bytes : List ℕ) : Type 0 where
@@ -39,7 +39,7 @@ no_more : (before more : List ℕ) → before ++ more ≡ before → more ≡ []
 no_more before more is = append_cancel_left before more [] (is ∙ sym (append-nil before))
 
 -- one piece more
-pub adding_more : (first old new : ShelfState) (name before after : List ℕ) (more : Bool) → Adding first old name before → Piece old new name before after more
+pub adding_more : (first old new : ShelfState) (name before after : List ℕ) (more : Bool) → Adding first old name before → FilePieceIsRead old new name before after more
     → new.files ≡ old.files → Adding first new name after
 adding_more first old new name before after more adding piece stays = record {
   read =
@@ -56,14 +56,14 @@ adding_more first old new name before after more adding piece stays = record {
 }
 
 -- the end of the file
-pub adding_ends : (first old new : ShelfState) (name before after : List ℕ) → Adding first old name before → Piece old new name before after false
+pub adding_ends : (first old new : ShelfState) (name before after : List ℕ) → Adding first old name before → FilePieceIsRead old new name before after false
     → length before ≤ most_file → IsFile first new name after
 adding_ends first old new name before after adding piece few = record {
   read =
       let more : List ℕ = piece.read.0 in
       let none : more ≡ [] = no_more before more (sym piece.read.1 ∙ piece.same refl) in
       let last = piece.read.2 ∙ ap (λ (m : List ℕ). old.calls ++ reads name (length before) m ∷ []) none in
-      subst (λ (b : List ℕ). ReadsWhole name first.calls new.calls b) (sym (piece.same refl))
+      subst (λ (b : List ℕ). ReadsWholeFile name first.calls new.calls b) (sym (piece.same refl))
       (row_ends name first.calls old.calls new.calls before adding.read last);
   there = subst (λ f. is_missing f name ≡ false) adding.files piece.there;
   whole = λ told holds.

@@ -1,12 +1,13 @@
 -- What is taken of a file.
-use Rattle.std.specs.Prelude.{◌≡◌, ◌⊎◌, ℕ, ◌+◌, ◌-◌, ◌<◌, ◌≤◌, List, ◌++◌, ◌∷◌, length, [], drop, Bool, true, false, Option, Result, Ok, Err, codes}
+use Rattle.std.specs.Prelude.{◌≡◌, ◌⊎◌, ℕ, ◌+◌, ◌-◌, ◌<◌, ◌≤◌, List, ◌++◌, ◌∷◌, length, [], drop}
+use Rattle.std.specs.Prelude.{Bool, true, false, Option, Result, Ok, Err, codes}
 use Rattle.esdk_fields.specs.Counts.{RoseBy, counted}
 use Rattle.esdk_base.specs.Shelf.{Files, Holds, is_missing}
 use Rattle.esdk_base.specs.Streams.{FailsToRead, ShelfState}
 use Rattle.esdk_seen.specs.Calls.{reads}
 use Rattle.whole_input.specs.declared.file.FileError.{FileError}
 use Rattle.whole_input.specs.declared.file.FileError.TheVariants.{Shelf, TooLong, Memory}
-use Rattle.whole_input.specs.FileReads.{ReadsRow, ReadsWhole}
+use Rattle.whole_input.specs.FileReads.{ReadsRow, ReadsWholeFile}
 use Rattle.whole_input.specs.Pieces.{most_piece}
 use Rattle.whole_input.specs.declared.file.FileError.TheVariants as errors
 
@@ -18,7 +19,7 @@ most_file = 1048576
 -- end. The file has just these bytes, where the shelf tells, and just so many were given; there are
 -- at most 1,048,576, and no read failed.
 pub record IsFile (old new : ShelfState) (name bytes : List ℕ) : Type 0 where
-  pub read : ReadsWhole name old.calls new.calls bytes
+  pub read : ReadsWholeFile name old.calls new.calls bytes
   pub there : is_missing old.files name ≡ false
   pub whole : (told : List ℕ) → Holds old.files name told → told ≡ bytes
   pub few : length bytes ≤ most_file
@@ -51,7 +52,7 @@ pub record IsUnread (old new : ShelfState) (name : List ℕ) : Type 0 where
 -- Memory ran out, behind calls that read the file in a row from its front and gave these bytes, at
 -- the latest with the piece that makes it too long. No read failed: the shelf is as before, or has
 -- the file, where it tells.
-pub record LacksMemory (old new : ShelfState) (name : List ℕ) : Type 0 where
+pub record LacksMemoryForFile (old new : ShelfState) (name : List ℕ) : Type 0 where
   pub bytes : List ℕ
   pub read : ReadsRow name 0 old.calls new.calls bytes
   pub few : length bytes ≤ most_file + most_piece
@@ -63,7 +64,7 @@ pub record LacksMemory (old new : ShelfState) (name : List ℕ) : Type 0 where
 abbrev pub FileCause : ShelfState → ShelfState → List ℕ → FileError → Type 0
 FileCause old new name Shelf = IsUnread old new name
 FileCause old new name TooLong = IsLong old new name
-FileCause old new name Memory = LacksMemory old new name
+FileCause old new name Memory = LacksMemoryForFile old new name
 
 -- these bytes are the front of the file, where the shelf tells
 abbrev pub IsFront : Option Files → List ℕ → List ℕ → Type 0
@@ -71,7 +72,8 @@ IsFront files name bytes = (told : List ℕ) → Holds files name told
     → told ≡ bytes ++ drop (length bytes) told
 
 -- A piece of the file, which may be empty, was put behind the bytes before.
-pub record Piece (old new : ShelfState) (name before after : List ℕ) (more : Bool) : Type 0 where
+pub record FilePieceIsRead (old new : ShelfState) (name before after : List ℕ) (more : Bool)
+    : Type 0 where
   pub there : is_missing old.files name ≡ false
   pub front : IsFront old.files name before → IsFront old.files name after
   pub no_shorter : length before ≤ length after
@@ -97,7 +99,7 @@ pub record LosesPiece (old new : ShelfState) (name before : List ℕ) : Type 0 w
 -- what adding a piece to a file's front comes to
 abbrev pub Adds : ShelfState → ShelfState → List ℕ → List ℕ → List ℕ → Result Bool FileError
     → Type 0
-Adds old new name before after (Ok more) = Piece old new name before after more
+Adds old new name before after (Ok more) = FilePieceIsRead old new name before after more
 Adds old new name before after (Err Shelf) =
     FailsToRead old new name × (new.given ≡ old.given) × (new.calls ≡ old.calls)
 Adds old new name before after (Err TooLong) = ⊥

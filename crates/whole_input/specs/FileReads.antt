@@ -1,5 +1,6 @@
 -- The calls of a shelf that read a file, and the bytes that they gave.
-use Rattle.std.specs.Prelude.{◌≡◌, ◌⊎◌, ℕ, ◌+◌, ◌≤◌, List, [], ◌∷◌, ◌++◌, length, drop, Bool, true, ⊤}
+use Rattle.std.specs.Prelude.{◌≡◌, ◌⊎◌, ℕ, ◌+◌, ◌≤◌, List, [], ◌∷◌, ◌++◌, length, drop, Bool, true}
+use Rattle.std.specs.Prelude.{⊤}
 use Rattle.std.specs.List.{All, Contains, concat}
 use Rattle.esdk_seen.specs.Calls.{ShelfCall, announces, appends, creates, finishes, reads}
 use Rattle.esdk_base.specs.Shelf.{Holds}
@@ -22,7 +23,7 @@ pub record ReadsRow (name : List ℕ) (at : ℕ) (old new : List ShelfCall) (byt
   pub all : bytes ≡ concat pieces
 
 -- The same of all of the file: the reads began at its front, and the last one gave nothing.
-pub record ReadsWhole (name : List ℕ) (old new : List ShelfCall) (bytes : List ℕ) : Type 0 where
+pub record ReadsWholeFile (name : List ℕ) (old new : List ShelfCall) (bytes : List ℕ) : Type 0 where
   pub pieces : List (List ℕ)
   pub calls : new ≡ old ++ reads_in_row name 0 (pieces ++ [] ∷ [])
   pub all : bytes ≡ concat pieces

@@ -1,11 +1,13 @@
 -- Reads of a file in a row: none, and some behind others. Laws that an `impl` can cite from specs/
 -- alone.
-use Rattle.std.proofs.Common.{◌≡◌, ◌⊎◌, ◌∙◌, ℕ, ◌+◌, ◌≤◌, List, [], ◌∷◌, ◌++◌, length, Bool, true, refl, sym, ap, subst, arith, inl, inr, append_assoc, append-nil, length-append}
+use Rattle.std.proofs.Common.{◌≡◌, ◌⊎◌, ◌∙◌, ℕ, ◌+◌, ◌≤◌, List, [], ◌∷◌, ◌++◌, length, Bool, true}
+use Rattle.std.proofs.Common.{refl, sym, ap, subst, arith, inl, inr, append_assoc, append-nil}
+use Rattle.std.proofs.Common.{length-append}
 use Rattle.std.proofs.lemmas.List.Elements.{Contains-append_left, Contains-append_right}
 use Rattle.std.proofs.lemmas.List.Folds.{concat-append}
 use Rattle.std.specs.List.{concat}
 use Rattle.esdk_seen.specs.Calls.{ShelfCall, reads}
-use Rattle.whole_input.specs.FileReads.{ComesFrom, ReadsRow, ReadsWhole, SeesEnd, reads_in_row}
+use Rattle.whole_input.specs.FileReads.{ComesFrom, ReadsRow, ReadsWholeFile, SeesEnd, reads_in_row}
 
 -- pieces behind others are read behind them
 pub row_behind : (name : List ℕ) (at : ℕ) (first second : List (List ℕ))
@@ -30,12 +32,14 @@ pub row_more : (name : List ℕ) (at mid : ℕ) (old made new : List ShelfCall) 
     → mid ≡ at + length bytes → ReadsRow name at old made bytes → ReadsRow name mid made new more
     → ReadsRow name at old new (bytes ++ more)
 row_more name at mid old made new bytes more is first second =
-    let so : mid ≡ at + length (concat first.pieces) = is ∙ ap (λ (b : List ℕ). at + length b) first.all in
+    let so : mid ≡ at + length (concat first.pieces) = is
+    ∙ ap (λ (b : List ℕ). at + length b) first.all in
     record {
       pieces = first.pieces ++ second.pieces;
       calls = second.calls
           ∙ ap (λ (c : List ShelfCall). c ++ reads_in_row name mid second.pieces) first.calls
-          ∙ append_assoc old (reads_in_row name at first.pieces) (reads_in_row name mid second.pieces)
+          ∙ append_assoc old (reads_in_row name at first.pieces)
+          (reads_in_row name mid second.pieces)
           ∙ ap (λ (c : List ShelfCall). old ++ c)
           (ap (λ (n : ℕ). reads_in_row name at first.pieces ++ reads_in_row name n second.pieces) so
           ∙ sym (row_behind name at first.pieces second.pieces));
@@ -54,7 +58,7 @@ row_one name at old new piece is =
 -- the end, seen behind a row from the front
 pub row_ends : (name : List ℕ) (old made new : List ShelfCall) (bytes : List ℕ)
     → ReadsRow name 0 old made bytes → new ≡ made ++ reads name (length bytes) [] ∷ []
-    → ReadsWhole name old new bytes
+    → ReadsWholeFile name old new bytes
 unfolding reads_in_row
 row_ends name old made new bytes row last = record {
   pieces = row.pieces;

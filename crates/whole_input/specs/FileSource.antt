@@ -20,7 +20,8 @@ file_left None name at = None
 -- Between two moments of the source, at which it had come so far and had failed so often: the files
 -- of the shelf are as they were, the shelf gave no more than was read, and where a read failed,
 -- short of the offset 2^64 - 1, the shelf failed or has no file of the name.
-pub record ReadsOn (old new : ShelfState) (name : List ℕ) (at now_at before now : ℕ) : Type 0 where
+pub record FileReadsOn (old new : ShelfState) (name : List ℕ) (at now_at before now : ℕ)
+    : Type 0 where
   pub files : new.files ≡ old.files
   pub on : at ≤ now_at
   pub given : new.given ≤ old.given + (now_at - at)

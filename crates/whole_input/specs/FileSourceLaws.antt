@@ -1,14 +1,16 @@
 -- A file as a source lasts from each moment to the same one, and over reads in a row: laws of its
 -- relation, which an `impl` can cite from specs/ alone.
-use Rattle.std.proofs.Common.{◌≡◌, ◌∙◌, ℕ, List, Bool, true, false, refl, ap, subst, arith, inl, inr}
+use Rattle.std.proofs.Common.{◌≡◌, ◌∙◌, ℕ, List, Bool, true, false, refl, ap, subst, arith, inl}
+use Rattle.std.proofs.Common.{inr}
 use Rattle.std.proofs.lemmas.Bool.{cases_lt}
 use Rattle.esdk_fields.specs.Counts.{Rose}
 use Rattle.esdk_base.specs.Shelf.{is_missing}
 use Rattle.esdk_base.specs.Streams.{ShelfState}
-use Rattle.whole_input.specs.FileSource.{ReadsOn}
+use Rattle.whole_input.specs.FileSource.{FileReadsOn}
 
-pub reads_none : (s : ShelfState) (name : List ℕ) (at count : ℕ) → ReadsOn s s name at at count count
-reads_none s name at count = record {
+pub file_reads_none : (s : ShelfState) (name : List ℕ) (at count : ℕ)
+    → FileReadsOn s s name at at count count
+file_reads_none s name at count = record {
   files = refl;
   on = omega arith;
   given = omega arith;
@@ -24,9 +26,10 @@ missing_same : (r s : ShelfState) (name : List ℕ) (b : Bool) → s.files ≡ r
     → is_missing r.files name ≡ b → is_missing s.files name ≡ b
 missing_same r s name b same e = ap (λ files. is_missing files name) same ∙ e
 
-pub reads_more : (r s t : ShelfState) (name : List ℕ) (at mid end a b c : ℕ)
-    → ReadsOn r s name at mid a b → ReadsOn s t name mid end b c → ReadsOn r t name at end a c
-reads_more r s t name at mid end a b c first second = record {
+pub file_reads_more : (r s t : ShelfState) (name : List ℕ) (at mid end a b c : ℕ)
+    → FileReadsOn r s name at mid a b → FileReadsOn s t name mid end b c
+    → FileReadsOn r t name at end a c
+file_reads_more r s t name at mid end a b c first second = record {
   files = second.files ∙ first.files;
   on = omega (arith, first.on, second.on);
   given = omega (arith, first.given, second.given, first.on, second.on);
@@ -38,7 +41,8 @@ reads_more r s t name at mid end a b c first second = record {
       (after.0 ∙ before.0, after.1 ∙ before.1);
   failed = λ more few there. elim (cases_lt a b) [
     | inl early ↦
-        (let rose : Rose r.faults s.faults = first.failed early (omega (arith, few, second.on)) there in
+        (let rose : Rose r.faults s.faults = first.failed early (omega (arith, few, second.on))
+        there in
         omega (arith, rose, second.later))
     | inr late ↦
         (let rose : Rose s.faults t.faults =
@@ -53,7 +57,10 @@ reads_more r s t name at mid end a b c first second = record {
 }
 
 -- the same where the second name is known to be the first
-pub reads_more_named : (r s t : ShelfState) (name other : List ℕ) (at mid end a b c : ℕ) → other ≡ name
-    → ReadsOn r s name at mid a b → ReadsOn s t other mid end b c → ReadsOn r t name at end a c
+pub reads_more_named : (r s t : ShelfState) (name other : List ℕ) (at mid end a b c : ℕ)
+    → other ≡ name
+    → FileReadsOn r s name at mid a b → FileReadsOn s t other mid end b c
+    → FileReadsOn r t name at end a c
 reads_more_named r s t name other at mid end a b c is first second =
-    reads_more r s t name at mid end a b c first (subst (λ n. ReadsOn s t n mid end b c) is second)
+    file_reads_more r s t name at mid end a b c first
+    (subst (λ n. FileReadsOn s t n mid end b c) is second)

@@ -1,18 +1,16 @@
 -- An input that is taken piece by piece.
-use Rattle.std.specs.Prelude.{◌≡◌, ℕ, ◌+◌, ◌^◌, ◌<◌, ◌≤◌, List, [], ◌++◌, length, take, true, Result, Ok, Err}
+use Rattle.std.specs.Prelude.{◌≡◌, ℕ, ◌+◌, ◌<◌, ◌≤◌, List, [], ◌++◌, length, take, true, Result, Ok}
+use Rattle.std.specs.Prelude.{Err}
 use Rattle.std.specs.Io.KnownBytes.{IsAtEnd}
 use Rattle.esdk_fields.specs.Counts.{Rose}
-use Rattle.esdk_base.specs.Streams.{SourceState}
+use Rattle.esdk_base.specs.Streams.{SourceState, most_input}
 use Rattle.whole_input.specs.declared.pieces.End.{End}
 use Rattle.whole_input.specs.declared.pieces.End.TheVariants.{Seen, Failed, TooLong}
-use Rattle.whole_input.specs.Taken.{Came, Piece}
+use Rattle.whole_input.specs.Taken.{Came, PieceCame}
 
 -- how many bytes are read at once at the most, and how many are taken of one input at the most
 abbrev pub most_piece : ℕ
 most_piece = 65536
-
-abbrev pub most_input : ℕ
-most_input = 2 ^ 62
 
 -- How many bytes were taken so far, and the last piece.
 pub record PiecesValue : Type 0 where
@@ -28,7 +26,7 @@ pub record FitsPieces (buffer : List ℕ) (count taken : ℕ) : Type 0 where
 -- what one read into the front of a buffer comes to: so many bytes are the piece, or there is none
 abbrev pub ReadsInto : ℕ → SourceState → SourceState → List ℕ → Result ℕ End → Type 0
 ReadsInto room old new buffer (Ok count) =
-    Piece room old new (take count buffer) × (length (take count buffer) ≡ count)
+    PieceCame room old new (take count buffer) × (length (take count buffer) ≡ count)
 ReadsInto room old new buffer (Err Seen) =
     Came old new [] × IsAtEnd new.left × (new.faults ≡ old.faults) × (new.ended ≡ true)
 ReadsInto room old new buffer (Err Failed) = Came old new [] × Rose old.faults new.faults
@@ -39,7 +37,8 @@ ReadsInto room old new buffer (Err TooLong) = ⊥
 abbrev pub NextPiece : {T : Type 0} → ℕ → SourceState → SourceState → PiecesValue → Result T End
     → Type 0
 NextPiece taken old new v (Ok done) =
-    Piece most_piece old new v.piece × (v.taken ≡ taken + length v.piece) × (v.taken ≤ most_input)
+    PieceCame most_piece old new v.piece × (v.taken ≡ taken + length v.piece)
+    × (v.taken ≤ most_input)
 NextPiece taken old new v (Err Seen) =
     Came old new [] × IsAtEnd new.left × (new.faults ≡ old.faults) × (taken < most_input)
     × (v.taken ≡ taken) × (new.ended ≡ true)

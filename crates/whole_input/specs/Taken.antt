@@ -25,7 +25,7 @@ pub record MostTaken (first now : SourceState) (bytes : List ℕ) : Type 0 where
   pub count : length bytes ≡ 2 ^ 62
 
 -- A piece of at most so many bytes came, at least one, and no read failed.
-pub record Piece (room : ℕ) (old new : SourceState) (piece : List ℕ) : Type 0 where
+pub record PieceCame (room : ℕ) (old new : SourceState) (piece : List ℕ) : Type 0 where
   pub some : 1 ≤ length piece
   pub fits : length piece ≤ room
   pub came : Came old new piece

@@ -105,7 +105,8 @@ fn add_piece<F: Shelf>(
 ) -> Result<bool, FileError>
     requires room { 0 < length buffer.old }
     requires few { length buffer.old ≤ most_piece }
-    ensures adds { Adds (F.state shelf.old) (F.state shelf.new) name.now bytes.old bytes.new result }
+    ensures adds { Adds (F.state shelf.old) (F.state shelf.new) name.now bytes.old bytes.new
+        result }
     ensures stays { (F.state shelf.new).files ≡ (F.state shelf.old).files }
 {
     let Ok(count) = shelf.read_at(name, bytes.bytes().len() as u64, buffer) else {

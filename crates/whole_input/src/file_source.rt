@@ -4,8 +4,8 @@ ghost use Rattle.std.specs.Prelude.{◌≡◌, [], false};
 ghost use Rattle.std.proofs.Common.{◌∙◌, ap, refl};
 ghost use Rattle.whole_input.specs.FileReads.{ComesFrom};
 ghost use Rattle.whole_input.specs.FileReadsLaws.{comes_more, comes_none};
-ghost use Rattle.whole_input.specs.FileSource.{ReadsOn, file_left};
-ghost use Rattle.whole_input.specs.FileSourceLaws.{reads_more_named, reads_none};
+ghost use Rattle.whole_input.specs.FileSource.{FileReadsOn, file_left};
+ghost use Rattle.whole_input.specs.FileSourceLaws.{reads_more_named, file_reads_none};
 
 use esdk_base::{Failed, Shelf, Source, sees_end};
 use esdk_seen::SeenBytes;
@@ -61,7 +61,7 @@ impl<'a, F: Shelf> Source for FileSource<'a, F> {
 
     ghost lasts = { λ old new. (new.shelf.ghost_name ≡ old.shelf.ghost_name)
         × (new.name ≡ old.name)
-        × ReadsOn (F.state old.shelf.now) (F.state new.shelf.now) old.name.now
+        × FileReadsOn (F.state old.shelf.now) (F.state new.shelf.now) old.name.now
         old.at new.at old.faults new.faults
         × ComesFrom old.name.now old.at new.at (F.state old.shelf.now).calls
         (F.state new.shelf.now).calls old.came.bytes new.came.bytes old.ended new.ended };
@@ -84,7 +84,7 @@ impl<'a, F: Shelf> Source for FileSource<'a, F> {
     ghost lasts_none = { λ s. (
       refl,
       refl,
-      reads_none (F.state s.shelf.now) s.name.now s.at s.faults,
+      file_reads_none (F.state s.shelf.now) s.name.now s.at s.faults,
       comes_none s.name.now s.at (F.state s.shelf.now).calls s.came.bytes s.ended,
     ) };
 

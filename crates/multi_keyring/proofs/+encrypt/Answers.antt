@@ -7,7 +7,7 @@ use Rattle.keyring_trait.specs.Keyring.{KeyringMeaning, Wraps, WrapCause, refusa
 use Rattle.multi_keyring.specs.Forest.{tallest}
 use Rattle.multi_keyring.specs.TreeFalls.{members_fall}
 use Rattle.multi_keyring.specs.Nodes.{all_of}
-use Rattle.multi_keyring.specs.Tree.{all_faults, all_wraps, joined, meanings, tree_meaning}
+use Rattle.multi_keyring.specs.Tree.{all_faults, all_wraps, joined_members, meanings, tree_meaning}
 use Rattle.multi_keyring.proofs.Meanings.{meanings-forest, row_is, joined_row}
 use Rattle.multi_keyring.proofs.Finding.{stays_same}
 use Rattle.multi_keyring.proofs.Appending.{begins, err_is, kept_here, cause_here, step_here}
@@ -72,7 +72,7 @@ tree::Multi::encrypt-returns-clause-taken g t c =
 pub tree::Multi::encrypt-returns-clause-cause : goal.tree::Multi::encrypt-returns-clause-cause
 tree::Multi::encrypt-returns-clause-cause g t c =
     subst (λ (ms : List KeyringMeaning). IfErr c.encrypt.result
-    (WrapCause (refusal_with (is_some c.args.key) (joined c.args.self.now.0 (meanings g.P.Keyring.meaning c.args.self.now.1))) (all_faults (meanings g.P.Keyring.meaning c.args.self.now.1)) (all_faults ms)))
+    (WrapCause (refusal_with (is_some c.args.key) (joined_members c.args.self.now.0 (meanings g.P.Keyring.meaning c.args.self.now.1))) (all_faults (meanings g.P.Keyring.meaning c.args.self.now.1)) (all_faults ms)))
     (sym (meanings-forest g.P.Keyring.meaning (all_of c.encrypt.new.self)))
     (subst (λ (m : KeyringMeaning). IfErr c.encrypt.result
     (WrapCause (refusal_with (is_some c.args.key) m) m.faults (all_faults (map (tree_meaning g.P.Keyring.meaning) (all_of c.encrypt.new.self)))))

@@ -1,18 +1,18 @@
 use Rattle.std.proofs.Common.{◌≡◌, ◌%◌, ◌/◌, ◌^◌, ◌<◌, List, ℕ, [], ◌∷◌, ◌++◌, ap, ◌∙◌, arith}
 use Rattle.std.proofs.lemmas.List.{get_or-replicate}
-use Rattle.cipher_spec.specs.Aes.{add_round_key, key_at, round, rounds}
+use Rattle.cipher_spec.specs.Aes.{add_round_key, round, rounds, word_at}
 use Rattle.aes_core.specs.Counters.{four_times, last_key_byte, page_bytes, page_rest, page_state, quad_images, without_column}
 use Rattle.aes_core.proofs.page.page_of.Goals as goal
 
 -- the state after round 1 of a page, by its block
-state_is : (schedule : List (List ℕ)) (iv x s : List ℕ) (page : ℕ) → s ≡ round (add_round_key x (key_at schedule 0)) (key_at schedule 1)
+state_is : (schedule : List (List ℕ)) (iv x s : List ℕ) (page : ℕ) → s ≡ round (add_round_key x (word_at schedule 0)) (word_at schedule 1)
     → x ≡ page_bytes iv page ++ last_key_byte schedule ∷ [] → s ≡ page_state schedule iv page
 unfolding page_state rounds
-state_is schedule iv x s page e f = e ∙ ap (λ x. round (add_round_key x (key_at schedule 0)) (key_at schedule 1)) f
+state_is schedule iv x s page e f = e ∙ ap (λ x. round (add_round_key x (word_at schedule 0)) (word_at schedule 1)) f
 
-rest_is : (schedule : List (List ℕ)) (iv s r : List ℕ) (page : ℕ) → s ≡ page_state schedule iv page → r ≡ round (without_column s) (key_at schedule 2) → r ≡ page_rest schedule iv page
+rest_is : (schedule : List (List ℕ)) (iv s r : List ℕ) (page : ℕ) → s ≡ page_state schedule iv page → r ≡ round (without_column s) (word_at schedule 2) → r ≡ page_rest schedule iv page
 unfolding page_rest
-rest_is schedule iv s r page e f = f ∙ ap (λ s. round (without_column s) (key_at schedule 2)) e
+rest_is schedule iv s r page e f = f ∙ ap (λ s. round (without_column s) (word_at schedule 2)) e
 
 pub returns-clause-page : goal.returns-clause-page
 returns-clause-page c = λ has.

@@ -1,5 +1,5 @@
 use Rattle.std.proofs.Common.{ap}
-use Rattle.esdk_list.specs.List.{fault_at_end}
+use Rattle.esdk_list.specs.List.{reading_fault_at_end}
 use Rattle.c_session.proofs.front.front_of.Goals as goal
 
 pub returns-in-Ok : goal.returns-in-Ok
@@ -8,8 +8,8 @@ returns-in-Ok c =
 
 pub returns-in-Err-Fault : goal.returns-in-Err-Fault
 returns-in-Err-Fault c =
-    ap fault_at_end (rw c.in-Err-Fault.field-0-is at c.in-Err-Fault.ensures)
+    ap reading_fault_at_end (rw c.in-Err-Fault.field-0-is at c.in-Err-Fault.ensures)
 
 pub returns-in-Err-Wanting : goal.returns-in-Err-Wanting
 returns-in-Err-Wanting c =
-    ap fault_at_end (rw c.in-Err-Wanting.field-0-is at c.in-Err-Wanting.ensures)
+    ap reading_fault_at_end (rw c.in-Err-Wanting.field-0-is at c.in-Err-Wanting.ensures)

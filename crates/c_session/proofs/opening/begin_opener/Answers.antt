@@ -1,4 +1,4 @@
-use Rattle.stream_open.specs.Session.{new_session}
+use Rattle.stream_open.specs.Session.{new_opening_session}
 use Rattle.c_session.proofs.Openings.{opens_first}
 use Rattle.c_session.proofs.opening.begin_opener.Goals as goal
 
@@ -9,4 +9,4 @@ returns-clause-opens g c =
 
 pub returns-clause-session : goal.returns-clause-session
 returns-clause-session g c =
-    record { session = new_session c.args.settings c.args.given; stands = c.new.ensures }
+    record { session = new_opening_session c.args.settings c.args.given; stands = c.new.ensures }

@@ -1,5 +1,5 @@
 use Rattle.std.proofs.Common.{◌∙◌, sym}
-use Rattle.stream_open.specs.Session.{finished}
+use Rattle.stream_open.specs.Session.{opening_finished}
 use Rattle.c_session.proofs.Openings.{end_not_whole, end_whole}
 use Rattle.c_session.proofs.opening.end_opener.Goals as goal
 
@@ -18,9 +18,9 @@ returns-in-Err-clause-opens g c = λ begun settings pairs taken given opens.
 pub returns-in-Ok-clause-session : goal.returns-in-Ok-clause-session
 returns-in-Ok-clause-session g c =
     let s = c.requires.session in
-    record { session = finished s.session; stands = c.finish.ensures.stands s.session s.stands }
+    record { session = opening_finished s.session; stands = c.finish.ensures.stands s.session s.stands }
 
 pub returns-in-Err-clause-session : goal.returns-in-Err-clause-session
 returns-in-Err-clause-session g c =
     let s = c.requires.session in
-    record { session = finished s.session; stands = c.finish.ensures.stands s.session s.stands }
+    record { session = opening_finished s.session; stands = c.finish.ensures.stands s.session s.stands }

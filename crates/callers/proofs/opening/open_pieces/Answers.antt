@@ -1,8 +1,8 @@
 use Rattle.std.proofs.Common.{◌∙◌, [], sym}
 use Rattle.std.proofs.lemmas.List.{take_all, take_more, map-append, append-nil}
 use Rattle.std.proofs.lemmas.List.Folds.{concat-append}
-use Rattle.stream_open.specs.Session.{finished}
-use Rattle.callers.specs.Opening.{no_limits}
+use Rattle.header_codec.specs.Header.{no_limits}
+use Rattle.stream_open.specs.Session.{opening_finished}
 use Rattle.callers.proofs.Opened.{opening_first, opening_more, opens_whole}
 use Rattle.callers.proofs.opening.open_pieces.Goals as goal
 
@@ -20,5 +20,5 @@ returns-in-Some g c =
     let finish = c.finish.ensures in
     record {
       whole = opens_whole no_limits _ _ _ c.loop-piece.opener c.in-Some.context taken (sym (finish.answer taken.session taken.stands) ∙ c.in_ok-finish.was)
-          (sym (c.into_context.ensures (finished taken.session) (finish.stands taken.session taken.stands)) ∙ c.in-Some.is);
+          (sym (c.into_context.ensures (opening_finished taken.session) (finish.stands taken.session taken.stands)) ∙ c.in-Some.is);
     }

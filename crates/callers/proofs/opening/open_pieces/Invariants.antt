@@ -1,6 +1,6 @@
 use Rattle.std.proofs.Common.{map, take}
 use Rattle.std.specs.List.{concat}
-use Rattle.callers.specs.Opening.{no_limits}
+use Rattle.header_codec.specs.Header.{no_limits}
 use Rattle.callers.proofs.Opened.{Opening}
 use Rattle.callers.proofs.opening.open_pieces.Given as goal
 

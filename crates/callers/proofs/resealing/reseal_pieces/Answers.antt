@@ -3,7 +3,7 @@ use Rattle.std.specs.List.{concat}
 use Rattle.std.proofs.lemmas.List.{take_all}
 use Rattle.esdk_base.specs.ReceiverLaws.{takes_none}
 use Rattle.esdk_decrypt.proofs.Concluding.{passed_on}
-use Rattle.reseal_core.specs.Session.{gone_on, new_session}
+use Rattle.reseal_core.specs.Session.{gone_on, new_resealing_session}
 use Rattle.reseal_core.proofs.Feeding.{reached_none}
 use Rattle.callers.specs.declared.errors.CallError.TheVariants as calls
 use Rattle.callers.proofs.ResealedPieces.{finishes_not, finishes_so, lacks_memory, pieces_all, pieces_on, wants_more}
@@ -54,7 +54,7 @@ returns-in_default-clause-cause g c =
     let r = rw (take_all c.loop-piece.piece-index c.args.pieces.now c.loop-piece-test.false) at c.loop-piece.invariant.reached in
     wants_more g.A.Manager.state g.B.Manager.state c.args.options.now c.args.options.settings c.args.given c.args.options.frame_length c.args.random.now (concat (map (λ piece. piece.now) c.args.pieces.now)) c.args.opening.now c.loop-piece.opening c.args.sealing.now
     c.loop-piece.sealing (g.O.Sink.state c.args.output.now) (g.O.Sink.state c.loop-piece.output) c.loop-piece.resealer r
-    (sym (c.in_default.ensures (gone_on (new_session c.args.options.settings c.args.given c.args.options.frame_length c.args.random.now) r.fed.session r.materials) r.stands))
+    (sym (c.in_default.ensures (gone_on (new_resealing_session c.args.options.settings c.args.given c.args.options.frame_length c.args.random.now) r.fed.session r.materials) r.stands))
 
 pub returns-in_err-context-clause-cause : goal.returns-in_err-context-clause-cause
 returns-in_err-context-clause-cause g c =
@@ -69,12 +69,12 @@ returns-in_err-finish-clause-cause g c =
     passed_on _ c.from_residual-in_err-finish.result (calls.Reseal c.in_err-finish.field-0.0) c.from_residual-in_err-finish.ensures.1
     (finishes_not g.A.Manager.state g.B.Manager.state c.args.options.now c.args.options.settings c.args.given c.args.options.frame_length c.args.random.now (concat (map (λ piece. piece.now) c.args.pieces.now)) c.args.opening.now c.loop-piece.opening c.args.sealing.now
     c.loop-piece.sealing (g.O.Sink.state c.args.output.now) (g.O.Sink.state c.loop-piece.output) c.loop-piece.resealer r (g.O.Sink.state c.finish.new.output) (c.finish.new.output ≡ c.loop-piece.output) c.in_err-finish.field-0.0 (ap g.O.Sink.state)
-    (c.in_err-finish.ensures.finishes (gone_on (new_session c.args.options.settings c.args.given c.args.options.frame_length c.args.random.now) r.fed.session r.materials) r.stands refl))
+    (c.in_err-finish.ensures.finishes (gone_on (new_resealing_session c.args.options.settings c.args.given c.args.options.frame_length c.args.random.now) r.fed.session r.materials) r.stands refl))
 
 pub returns-clause-whole : goal.returns-clause-whole
 returns-clause-whole g c =
     let r = rw (take_all c.loop-piece.piece-index c.args.pieces.now c.loop-piece-test.false) at c.loop-piece.invariant.reached in
     finishes_so g.A.Manager.state g.B.Manager.state c.args.options.now c.args.options.settings c.args.given c.args.options.frame_length c.args.random.now (concat (map (λ piece. piece.now) c.args.pieces.now)) c.args.opening.now c.loop-piece.opening c.args.sealing.now
     c.loop-piece.sealing (g.O.Sink.state c.args.output.now) (g.O.Sink.state c.loop-piece.output) c.loop-piece.resealer r (g.O.Sink.state c.finish.new.output) (c.finish.new.output ≡ c.loop-piece.output) c.in_ok-context.context
-    (sym (c.in-Some.ensures (gone_on (new_session c.args.options.settings c.args.given c.args.options.frame_length c.args.random.now) r.fed.session r.materials) r.stands) ∙ ap (λ x. Some x) (sym c.in_ok-context.ensures))
-    (c.in_ok-finish.ensures.finishes (gone_on (new_session c.args.options.settings c.args.given c.args.options.frame_length c.args.random.now) r.fed.session r.materials) r.stands refl)
+    (sym (c.in-Some.ensures (gone_on (new_resealing_session c.args.options.settings c.args.given c.args.options.frame_length c.args.random.now) r.fed.session r.materials) r.stands) ∙ ap (λ x. Some x) (sym c.in_ok-context.ensures))
+    (c.in_ok-finish.ensures.finishes (gone_on (new_resealing_session c.args.options.settings c.args.given c.args.options.frame_length c.args.random.now) r.fed.session r.materials) r.stands refl)

@@ -1,6 +1,6 @@
 use Rattle.std.proofs.Common.{◌≡◌, ◌∙◌, ◌+◌, ◌-◌, ◌*◌, ◌++◌, ℕ, List, drop, take, refl, sym, ap, subst, arith}
 use Rattle.esdk_decrypt.proofs.Concluding.{passed_on}
-use Rattle.reseal_core.specs.Session.{gone_on, new_session}
+use Rattle.reseal_core.specs.Session.{gone_on, new_resealing_session}
 use Rattle.reseal_core.specs.Underway.{Reached}
 use Rattle.reseal_core.proofs.StepEnds.{steps_fed}
 use Rattle.callers.specs.declared.errors.CallError.TheVariants.{Reseal}
@@ -11,7 +11,7 @@ pub step-requires-clause-session : goal.step-requires-clause-session
 step-requires-clause-session g c =
     let b = c.requires in
     let r = c.steps.invariant.reached b.settings b.given b.size b.random b.bytes b.first b.begun b.before b.reached in
-    record { session = gone_on (new_session b.settings b.given b.size b.random) r.fed.session r.materials; stands = r.stands }
+    record { session = gone_on (new_resealing_session b.settings b.given b.size b.random) r.fed.session r.materials; stands = r.stands }
 
 pub step-requires-clause-random : goal.step-requires-clause-random
 step-requires-clause-random g c = λ v stands locked.
@@ -29,8 +29,8 @@ returns-in_err-used-clause-cause g c = λ settings given size random bytes first
     passed_on _ c.from_residual.result (Reseal c.in_err-used.field-0.0) c.from_residual.ensures.1
     (step_fails g.A.Manager.state g.B.Manager.state c.args.now settings given size random (bytes ++ take c.steps.taken c.args.piece.now) first c.steps.opening begun c.steps.sealing before (g.O.Sink.state c.steps.output) c.steps.resealer r rest
     (p.behind ++ more) ((bytes ++ c.args.piece.now) ++ more) c.step.new.opening c.step.new.sealing (g.O.Sink.state c.step.new.output) c.step.new.self (c.step.new.output ≡ c.steps.output) p.some p.few
-    (c.step.ensures.unasked (gone_on (new_session settings given size random) r.fed.session r.materials) r.stands) (ap g.O.Sink.state) c.in_err-used.field-0.0
-    (c.in_err-used.ensures.steps (gone_on (new_session settings given size random) r.fed.session r.materials) r.stands refl) (p.all bytes more))
+    (c.step.ensures.unasked (gone_on (new_resealing_session settings given size random) r.fed.session r.materials) r.stands) (ap g.O.Sink.state) c.in_err-used.field-0.0
+    (c.in_err-used.ensures.steps (gone_on (new_resealing_session settings given size random) r.fed.session r.materials) r.stands refl) (p.all bytes more))
 
 pub steps-smaller : goal.steps-smaller
 steps-smaller g c =
@@ -41,8 +41,8 @@ steps-smaller g c =
     let r = c.steps.invariant.reached b.settings b.given b.size b.random b.bytes b.first b.begun b.before b.reached in
     let fed = steps_fed g.A.Manager.state g.B.Manager.state c.args.now b.settings b.given b.size b.random (b.bytes ++ take c.steps.taken c.args.piece.now) b.first c.steps.opening b.begun c.steps.sealing b.before (g.O.Sink.state c.steps.output)
     c.steps.resealer r rest c.step.new.opening c.step.new.sealing (g.O.Sink.state c.step.new.output) c.step.new.self (c.step.new.output ≡ c.steps.output) p.some
-    (c.step.ensures.unasked (gone_on (new_session b.settings b.given b.size b.random) r.fed.session r.materials) r.stands) c.in_ok-used.used
-    (c.in_ok-used.ensures.steps (gone_on (new_session b.settings b.given b.size b.random) r.fed.session r.materials) r.stands refl) in
+    (c.step.ensures.unasked (gone_on (new_resealing_session b.settings b.given b.size b.random) r.fed.session r.materials) r.stands) c.in_ok-used.used
+    (c.in_ok-used.ensures.steps (gone_on (new_resealing_session b.settings b.given b.size b.random) r.fed.session r.materials) r.stands refl) in
     omega (arith, fed.some, c.steps-test.true)
 
 pub steps-preserved : goal.steps-preserved
@@ -58,8 +58,8 @@ steps-preserved g c =
           (let r = c.steps.invariant.reached settings given size random bytes first begun before reached in
           let fed = steps_fed g.A.Manager.state g.B.Manager.state c.args.now settings given size random (bytes ++ take c.steps.taken c.args.piece.now) first c.steps.opening begun c.steps.sealing before (g.O.Sink.state c.steps.output)
           c.steps.resealer r rest c.step.new.opening c.step.new.sealing (g.O.Sink.state c.step.new.output) c.step.new.self (c.step.new.output ≡ c.steps.output) p.some
-          (c.step.ensures.unasked (gone_on (new_session settings given size random) r.fed.session r.materials) r.stands) c.in_ok-used.used
-          (c.in_ok-used.ensures.steps (gone_on (new_session settings given size random) r.fed.session r.materials) r.stands refl) in
-          subst (λ (l : List ℕ). Reached g.A.Manager.state g.B.Manager.state c.args.now (new_session settings given size random) l first c.step.new.opening begun c.step.new.sealing before (g.O.Sink.state c.step.new.output) c.step.new.self)
+          (c.step.ensures.unasked (gone_on (new_resealing_session settings given size random) r.fed.session r.materials) r.stands) c.in_ok-used.used
+          (c.in_ok-used.ensures.steps (gone_on (new_resealing_session settings given size random) r.fed.session r.materials) r.stands refl) in
+          subst (λ (l : List ℕ). Reached g.A.Manager.state g.B.Manager.state c.args.now (new_resealing_session settings given size random) l first c.step.new.opening begun c.step.new.sealing before (g.O.Sink.state c.step.new.output) c.step.new.self)
           (p.ahead bytes c.in_ok-used.used fed.within) fed.reached);
     }

@@ -1,14 +1,14 @@
 use Rattle.std.proofs.Common.{[], None}
 use Rattle.std.proofs.lemmas.List.{take_all, take_more, map-append, append-nil}
 use Rattle.std.proofs.lemmas.List.Folds.{concat-append}
-use Rattle.stream_seal.specs.Session.{new_session}
+use Rattle.stream_seal.specs.Session.{new_sealing_session}
 use Rattle.callers.proofs.Sealed.{sealing_ends, sealing_first, sealing_more}
 use Rattle.callers.proofs.sealing.seal_pieces.Goals as goal
 
 pub loop-piece-init : goal.loop-piece-init
 loop-piece-init g c =
     let stands = c.in_ok-sealer.ensures.stands in
-    sealing_first c.args.materials.now c.args.frame_length c.args.message_id.now _ _ c.in_ok-sealer.sealer c.header.result.now c.requires.some stands (c.header.ensures (new_session c.args.materials.now None c.args.frame_length c.args.message_id.now) stands) c.in_ok-put.ensures.bytes
+    sealing_first c.args.materials.now c.args.frame_length c.args.message_id.now _ _ c.in_ok-sealer.sealer c.header.result.now c.requires.some stands (c.header.ensures (new_sealing_session c.args.materials.now None c.args.frame_length c.args.message_id.now) stands) c.in_ok-put.ensures.bytes
 
 pub loop-piece-preserved : goal.loop-piece-preserved
 loop-piece-preserved g c =

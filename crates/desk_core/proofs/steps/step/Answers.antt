@@ -3,7 +3,7 @@ use Rattle.std.proofs.Common.{ℕ, ◌-◌, ◌<◌, ◌≤◌, length, Some, If
 use Rattle.desk_core.specs.declared.session.Session.TheVariants as machines
 use Rattle.desk_core.specs.Session.{SessionValue}
 use Rattle.desk_core.specs.Stands.{IsLive, work_in}
-use Rattle.desk_core.specs.Steps.{Steps}
+use Rattle.desk_core.specs.Steps.{DeskSteps}
 use Rattle.desk_core.proofs.Machines.{by_opener}
 use Rattle.desk_core.proofs.Openers.{falls_opening}
 use Rattle.desk_core.proofs.steps.step.Goals as goal
@@ -12,7 +12,7 @@ pub returns-in-Opening-clause-steps : goal.returns-in-Opening-clause-steps
 returns-in-Opening-clause-steps g c =
     by_opener
     (λ (s : SessionValue). IsLive s
-    → Steps (g.M.Manager.state c.args.manager.now) (g.M.Manager.state c.step_opener.new.manager) s c.args.id c.args.now c.args.piece.now c.step_opener.result (machines.Opening c.step_opener.new.opener) c.args.journal.now.items c.step_opener.new.journal.items)
+    → DeskSteps (g.M.Manager.state c.args.manager.now) (g.M.Manager.state c.step_opener.new.manager) s c.args.id c.args.now c.args.piece.now c.step_opener.result (machines.Opening c.step_opener.new.opener) c.args.journal.now.items c.step_opener.new.journal.items)
     c.args.session.now c.in-Opening.opener c.in-Opening.is c.step_opener.ensures.steps
 
 pub returns-in-Opening-clause-within : goal.returns-in-Opening-clause-within

@@ -3,7 +3,7 @@ use Rattle.std.specs.Prelude.{Err}
 use Rattle.clap.specs.Faults.{fault_of, is_simple_and_free}
 use Rattle.clap.specs.Kinds.{HasKind}
 use Rattle.clap.specs.Simple.{is_simple, matches_of}
-use Rattle.esdk_args.specs.Found.{Parses, refusal_of}
+use Rattle.esdk_args.specs.Found.{Parses, refusal_of_error}
 use Rattle.esdk_args.proofs.Rows.{refuses}
 use Rattle.esdk_args.proofs.Table.{simple, simple_and_free}
 use Rattle.esdk_args.proofs.parse.parse.Goals as goal
@@ -22,4 +22,4 @@ returns-in-Err c =
     let is = c.in_ok-command.ensures in
     let kinds = c.in-Err.ensures.kinds (ap is_simple_and_free is ∙ simple_and_free c.args.name) in
     let has = subst (λ a. HasKind (fault_of a words) c.in-Err.error) is kinds in
-    subst (λ f. Parses c.args.name words (Err f)) (ap refusal_of (sym c.kind.ensures) ∙ sym c.refusal.ensures) (refuses c.args.name words _ has)
+    subst (λ f. Parses c.args.name words (Err f)) (ap refusal_of_error (sym c.kind.ensures) ∙ sym c.refusal.ensures) (refuses c.args.name words _ has)

@@ -3,7 +3,7 @@ use Rattle.std.proofs.Common.{◌≡◌, ◌∙◌, Ok, Err, Some, None, sym, ru
 use Rattle.keyring_trait.specs.Saying.{said_between}
 use Rattle.desk_core.specs.Desk.{DeskValue, open_lines}
 use Rattle.desk_core.specs.Stands.{Stands, manager_of}
-use Rattle.esdk_batch.specs.Ending.{FeedsPiece}
+use Rattle.esdk_batch.specs.Ending.{FeedsJobPiece}
 use Rattle.esdk_batch.specs.Failures.{PieceCounts}
 use Rattle.esdk_batch.specs.Files.{KeepsOthers}
 use Rattle.esdk_batch.specs.FileEnd.{file_fails, file_takes}
@@ -32,7 +32,7 @@ returns-in-Ok-clause-feeds g c = λ by first last v s from admits stands live.
     let fed = c.in-Ok.ensures.feeds v stands in
     let same = piece_same g.M.Manager.state (file_takes g.F.Shelf.state) (file_fails g.F.Shelf.state) manager c.args.session c.args.now s c.args.piece.now c.args.to.now v c.args.desk.now c.feed_into.new.self _ after _ _ _ _ _
     (writes_file g.F.Shelf.state _ after) stands live (Ok tt) fed in
-    along (λ (f : g.row.F.Denot). (w : DeskValue) × Stands c.feed_into.new.self w × FeedsPiece manager c.args.session s c.args.piece.now v w c.args.to.now (files_by by (g.F.Shelf.state c.args.shelf.now)) (files_by by (g.F.Shelf.state f)) None)
+    along (λ (f : g.row.F.Denot). (w : DeskValue) × Stands c.feed_into.new.self w × FeedsJobPiece manager c.args.session s c.args.piece.now v w c.args.to.now (files_by by (g.F.Shelf.state c.args.shelf.now)) (files_by by (g.F.Shelf.state f)) None)
     _ after.shelf.now
     (piece_whole g.M.Manager.state (file_takes g.F.Shelf.state) (file_fails g.F.Shelf.state) manager c.args.session c.args.now s c.args.piece.now c.args.to.now v c.args.desk.now c.feed_into.new.self _ after _ _ _ _ _
     (writes_seen g.F.Shelf.state by _ after from) stands live (admits_last _ _ _ admits) fed)
@@ -46,7 +46,7 @@ returns-in_ok-end_by-in-Err-clause-feeds g c = λ by first last v s from admits 
     let end = c.in_ok-end_by-in-Err.field-0 in
     let same = piece_same g.M.Manager.state (file_takes g.F.Shelf.state) (file_fails g.F.Shelf.state) manager c.args.session c.args.now s c.args.piece.now c.args.to.now v c.args.desk.now c.feed_into.new.self _ after _ _ _ _ _
     (writes_file g.F.Shelf.state _ after) stands live (Err c.in-Err.error) fed in
-    along (λ (f : g.row.F.Denot). (w : DeskValue) × Stands c.feed_into.new.self w × FeedsPiece manager c.args.session s c.args.piece.now v w c.args.to.now (files_by by (g.F.Shelf.state c.args.shelf.now)) (files_by by (g.F.Shelf.state f)) (Some end))
+    along (λ (f : g.row.F.Denot). (w : DeskValue) × Stands c.feed_into.new.self w × FeedsJobPiece manager c.args.session s c.args.piece.now v w c.args.to.now (files_by by (g.F.Shelf.state c.args.shelf.now)) (files_by by (g.F.Shelf.state f)) (Some end))
     _ after.shelf.now
     (piece_ended g.M.Manager.state (file_takes g.F.Shelf.state) (file_fails g.F.Shelf.state) manager c.args.session c.args.now s c.args.piece.now c.args.to.now v c.args.desk.now c.feed_into.new.self _ after _ _ _ _ _
     (writes_seen g.F.Shelf.state by _ after from) stands live c.in-Err.error end c.in_ok-end_by-in-Err.ensures (admits_last _ _ _ admits) fed)

@@ -2,7 +2,7 @@
 use Rattle.std.proofs.Common.{◌≡◌, ℕ, List, false, refl, sym, subst, arith}
 use Rattle.esdk_fields.specs.declared.refusals.Outside.TheVariants as outsides
 use Rattle.esdk_base.specs.Shelf.{is_missing}
-use Rattle.desk_core.specs.Desk.{DropSession, after_call}
+use Rattle.desk_core.specs.Desk.{DropSession, after_desk_call}
 use Rattle.batch_report.specs.declared.job_lines.JobEnd.TheVariants as ends
 use Rattle.esdk_batch.proofs.Counting.{rose_none}
 use Rattle.esdk_batch.proofs.FirstTurns.{file_begun, file_failed}
@@ -16,7 +16,7 @@ returns-in-Ok-clause-begins g c = λ by v s from stands live.
 
 pub returns-in-Err-clause-begins : goal.returns-in-Err-clause-begins
 returns-in-Err-clause-begins g c = λ by v s from stands live. (
-  after_call v c.args.session false DropSession,
+  after_desk_call v c.args.session false DropSession,
   c.drop_session-dropped.ensures.stands v stands,
   file_failed c.args.session c.args.kind c.args.served s v _ _ c.args.to.now _ c.ended_job.ensures live (c.in-Err.ensures.makes by v s from stands live),
 )

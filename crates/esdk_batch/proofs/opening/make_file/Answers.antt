@@ -2,7 +2,7 @@
 use Rattle.std.proofs.Common.{◌≡◌, ◌∙◌, ℕ, List, sym, ap, subst}
 use Rattle.std.specs.Prelude.{Option, Some, OnErr, option_map}
 use Rattle.esdk_fields.specs.Counts.{Rose}
-use Rattle.desk_core.specs.Session.{SessionValue, header_of}
+use Rattle.desk_core.specs.Session.{SessionValue, sealed_header}
 use Rattle.esdk_batch.specs.FileEndLaws.{calls_more, from_later}
 use Rattle.esdk_batch.specs.Files.{MakesFile}
 use Rattle.esdk_batch.specs.ShelfCalls.{IsWrite}
@@ -12,8 +12,8 @@ use Rattle.esdk_batch.proofs.Watched.{file_made, put_there}
 use Rattle.esdk_batch.proofs.opening.make_file.Goals as goal
 
 -- the header that the desk gives is the session's
-header_is : (o : Option SessionValue) (s : SessionValue) (header : List ℕ) → o ≡ Some s → option_map header_of o ≡ Some header → header ≡ header_of s
-header_is o s header live gives = let same : Some (header_of s) ≡ Some header = ap (option_map header_of) (sym live) ∙ gives in cc
+header_is : (o : Option SessionValue) (s : SessionValue) (header : List ℕ) → o ≡ Some s → option_map sealed_header o ≡ Some header → header ≡ sealed_header s
+header_is o s header live gives = let same : Some (sealed_header s) ≡ Some header = ap (option_map sealed_header) (sym live) ∙ gives in cc
 
 pub returns-clause-calls : goal.returns-clause-calls
 returns-clause-calls g c = calls_more (IsWrite c.args.to.now) _ _ _ c.in_ok-make.ensures.calls c.put.ensures.calls

@@ -10,7 +10,7 @@ use Rattle.desk_core.specs.Stands.{manager_of}
 use Rattle.batch_report.specs.declared.job_lines.JobEnd.TheVariants as ends
 use Rattle.keyring_trait.specs.Saying.{Saying}
 use Rattle.esdk_batch.specs.FileEndLaws.{calls_none}
-use Rattle.esdk_batch.specs.Opening.{request_of}
+use Rattle.esdk_batch.specs.Opening.{job_request}
 use Rattle.esdk_batch.specs.ShelfCalls.{IsWrite}
 use Rattle.esdk_batch.specs.Watching.{as_told}
 use Rattle.esdk_batch.proofs.Counting.{rose_none, rose_zero}
@@ -62,7 +62,7 @@ returns-in-Ok-opened-clause-turn g c = λ by first last job asked v from admits 
     let told = says manager (g.M.Manager.state (manager_of c.args.desk.now)) (g.M.Manager.state (manager_of c.open_seal-opened.new.self)) asked c.args.now random o.short o.reply within o.replies in
     let b = has_begun asked random o.reply o.short (v.last + 1) c.in-Ok-opened.session o.answer in
     let lines : List JournalLine = lines_of (v.last + 1) Seal c.args.now asked.declared (served_by o.reply) in
-    let turn : Turn ℕ = seal_opened (request_of asked) random o.reply o.short (v.last + 1) in
+    let turn : Turn ℕ = seal_opened (job_request asked) random o.reply o.short (v.last + 1) in
     let u : DeskValue = after_turn (drawn v) (v.last + 1) lines turn in
     let file = c.begin.ensures.begins by u (Sealing (sealing_of asked random b.materials)) from o.stands (sealing_live v asked random o.reply o.short c.in-Ok-opened.session b) in
     let begun = is_begun manager asked c.args.request.now random o.reply o.short (v.last + 1) c.in-Ok-opened.session wraps c.served_since-served.result b request c.requires.some count within.wraps told
@@ -91,7 +91,7 @@ returns-in-Ok-opened-clause-lines g c = λ job asked v work request stands.
     (c.in-Ok-opened.ensures.opens v stands) (c.journal-lines.ensures.lines v stands) c.served_since-served.ensures in
     let b = has_begun asked random o.reply o.short (v.last + 1) c.in-Ok-opened.session o.answer in
     let lines : List JournalLine = lines_of (v.last + 1) Seal c.args.now asked.declared (served_by o.reply) in
-    let turn : Turn ℕ = seal_opened (request_of asked) random o.reply o.short (v.last + 1) in
+    let turn : Turn ℕ = seal_opened (job_request asked) random o.reply o.short (v.last + 1) in
     let u : DeskValue = after_turn (drawn v) (v.last + 1) lines turn in
     let file = c.begin.ensures.begins as_told u (Sealing (sealing_of asked random b.materials)) tt o.stands (sealing_live v asked random o.reply o.short c.in-Ok-opened.session b) in
     let grown = draws_on v u file.0 c.in-Ok-opened.session lines (draws_next v lines turn) b.same file.2.desk in (
@@ -113,12 +113,12 @@ returns-in_ok-end_of-in-Err-clause-turn g c = λ by first last job asked v from 
     let count : length random ≡ 64 + 12 * wraps = search rules in
     let told = says manager (g.M.Manager.state (manager_of c.args.desk.now)) (g.M.Manager.state (manager_of c.open_seal-opened.new.self)) asked c.args.now random o.short o.reply admits o.replies in
     let lines : List JournalLine = lines_of (v.last + 1) Seal c.args.now asked.declared (served_by o.reply) in
-    let turn : Turn ℕ = seal_opened (request_of asked) random o.reply o.short (v.last + 1) in (
+    let turn : Turn ℕ = seal_opened (job_request asked) random o.reply o.short (v.last + 1) in (
       _,
       o.stands,
       opens_none manager job asked v _ lines _ _ _ random o.reply o.short (v.last + 1) wraps c.in-Err.error c.in_ok-end_of-in-Err.field-0 c.served_since-served.result c.ended_job-in-Err.result work
           (draws_next v lines turn) (stands.undrawn (v.last + 1) (omega arith))
-          (update_here v.live (v.last + 1) turn.left ∙ seal_error_none (request_of asked) random o.reply o.short (v.last + 1) c.in-Err.error o.answer)
+          (update_here v.live (v.last + 1) turn.left ∙ seal_error_none (job_request asked) random o.reply o.short (v.last + 1) c.in-Err.error o.answer)
           (record { told = c.in-Ok.ensures.bytes; came = c.in-Ok.ensures.drawn }) count admits.wraps told o.serves o.answer c.in_ok-end_of-in-Err.ensures c.ended_job-in-Err.ensures,
     )
 
@@ -127,7 +127,7 @@ returns-in_ok-end_of-in-Err-clause-lines g c = λ job asked v work request stand
     let random : List ℕ = c.fill.new.out in
     let o = opened_so _ c.open_seal-opened.new.self asked c.args.request.now c.args.now random v _ c.served_since-served.result c.journal-lines.result.now request
     (c.in-Err.ensures.opens v stands) (c.journal-lines.ensures.lines v stands) c.served_since-served.ensures in
-    let turn : Turn ℕ = seal_opened (request_of asked) random o.reply o.short (v.last + 1) in
+    let turn : Turn ℕ = seal_opened (job_request asked) random o.reply o.short (v.last + 1) in
     let u : DeskValue = after_turn (drawn v) (v.last + 1) (lines_of (v.last + 1) Seal c.args.now asked.declared (served_by o.reply)) turn in (
       u,
       o.stands,

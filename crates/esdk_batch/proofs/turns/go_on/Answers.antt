@@ -1,9 +1,9 @@
 -- A further turn is what its reading and its feeding come to.
 use Rattle.std.proofs.Common.{◌≡◌, ◌∙◌, ◌+◌, false, Some, None, length, take, refl, sym, ap, arith}
-use Rattle.desk_core.specs.Desk.{DropSession, after_call}
+use Rattle.desk_core.specs.Desk.{DropSession, after_desk_call}
 use Rattle.desk_core.specs.Stands.{manager_of, journal_of}
 use Rattle.esdk_batch.specs.FileEndLaws.{from_later}
-use Rattle.esdk_batch.specs.ShelfCalls.{IsRead}
+use Rattle.esdk_batch.specs.ShelfCalls.{IsReadOf}
 use Rattle.esdk_batch.specs.Watching.{as_told, files_by}
 use Rattle.esdk_batch.proofs.FedTurns.{broken_so, fed_as, fed_so, reported_is}
 use Rattle.esdk_batch.proofs.FurtherLines.{broken_lines_so, draws_none, fed_lines, known, no_lines_so}
@@ -18,7 +18,7 @@ use Rattle.esdk_batch.proofs.turns.go_on.Goals as goal
 
 pub returns-in-Err-clause-turn : goal.returns-in-Err-clause-turn
 returns-in-Err-clause-turn g c = λ by first last v from admits stands has. (
-  after_call v c.args.live.session false DropSession,
+  after_desk_call v c.args.live.session false DropSession,
   c.drop_session-dropped.ensures.stands v stands,
   unread_so _ c.args.job.now c.args.live c.ended_job.result c.kind_of-kind.result c.as_str.result.now has.0 v _ _ _ _ c.in-Err.outside c.kind_of-kind.ensures c.ended_job.ensures has.1
       c.in-Err.ensures.reads (still_seen by _ _ c.read_piece.ensures.stays c.in-Err.ensures.tells),
@@ -27,7 +27,7 @@ returns-in-Err-clause-turn g c = λ by first last v from admits stands has. (
 pub returns-then-count-eq0-clause-turn : goal.returns-then-count-eq0-clause-turn
 returns-then-count-eq0-clause-turn g c = λ by first last v from admits stands has.
     let mid = g.F.Shelf.state c.read_piece.new.shelf in
-    let ends = c.in_ok-end.ensures.ends by v has.0 (from_later (IsRead c.as_str.result.now) by _ _ c.read_piece.ensures.calls from) stands has.1 in (
+    let ends = c.in_ok-end.ensures.ends by v has.0 (from_later (IsReadOf c.as_str.result.now) by _ _ c.read_piece.ensures.calls from) stands has.1 in (
       ends.0,
       ends.1,
       turn_sooner _ c.args.job.now c.args.live c.ended_job-then-count-eq0.result v ends.0 _ (files_by by mid) _
@@ -52,7 +52,7 @@ returns-then-count-eq0-clause-lines g c = λ v stands knows.
 pub returns-in-Some-clause-turn : goal.returns-in-Some-clause-turn
 returns-in-Some-clause-turn g c = λ by first last v from admits stands has.
     let mid = g.F.Shelf.state c.read_piece.new.shelf in
-    let feeds = c.in_ok-end-2.ensures.feeds by first last v has.0 (from_later (IsRead c.as_str.result.now) by _ _ c.read_piece.ensures.calls from) admits stands has.1 in
+    let feeds = c.in_ok-end-2.ensures.feeds by first last v has.0 (from_later (IsReadOf c.as_str.result.now) by _ _ c.read_piece.ensures.calls from) admits stands has.1 in
     let fed = fed_as _ c.args.live.session has.0 (take c.in-Ok.count c.read_piece.new.buffer) v feeds.0 _ c.args.job.now.to (files_by by mid) (files_by by mid) _ _ (Some c.in-Some.end)
     c.as_str-to.ensures.text refl c.in-Some.is feeds.2 in
     let journal : journal_of c.feed_piece.new.desk ≡ feeds.0.journal = feeds.1.journal in (
@@ -91,7 +91,7 @@ returns-in-Some-clause-lines g c = λ v stands knows.
 pub returns-in-None-clause-turn : goal.returns-in-None-clause-turn
 returns-in-None-clause-turn g c = λ by first last v from admits stands has.
     let mid = g.F.Shelf.state c.read_piece.new.shelf in
-    let feeds = c.in_ok-end-2.ensures.feeds by first last v has.0 (from_later (IsRead c.as_str.result.now) by _ _ c.read_piece.ensures.calls from) admits stands has.1 in
+    let feeds = c.in_ok-end-2.ensures.feeds by first last v has.0 (from_later (IsReadOf c.as_str.result.now) by _ _ c.read_piece.ensures.calls from) admits stands has.1 in
     let fed = fed_as _ c.args.live.session has.0 (take c.in-Ok.count c.read_piece.new.buffer) v feeds.0 _ c.args.job.now.to (files_by by mid) (files_by by mid) _ _ None
     c.as_str-to.ensures.text refl c.in-None.is feeds.2 in
     let journal : journal_of c.feed_piece.new.desk ≡ feeds.0.journal = feeds.1.journal in (

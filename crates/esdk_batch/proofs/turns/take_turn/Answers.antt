@@ -6,7 +6,7 @@ use Rattle.esdk_batch.specs.Failures.{HasFile}
 use Rattle.esdk_batch.specs.Progress.{is_ended, turns_left}
 use Rattle.esdk_batch.specs.Turns.{Knows, waits}
 use Rattle.esdk_batch.specs.Keeping.{IsBeyond}
-use Rattle.esdk_batch.specs.Underway.{HasSession}
+use Rattle.esdk_batch.specs.Underway.{JobHasSession}
 use Rattle.esdk_batch.proofs.Unplaced.{counts_placed, kept_placed, kind_placed, lines_placed, number_placed, turn_placed, turns_first, turns_placed}
 use Rattle.esdk_batch.proofs.Keeping.{keeps_as, keeps_same}
 use Rattle.esdk_batch.specs.FileEndLaws.{from_later}
@@ -64,7 +64,7 @@ returns-in_ok-next-in-Waiting-clause-counts g c = λ runs has. counts_placed c.a
 
 pub returns-in_ok-next-in-Live-clause-turn : goal.returns-in_ok-next-in-Live-clause-turn
 returns-in_ok-next-in-Live-clause-turn g c = λ by first last v from admits stands has.
-    let turn = c.in_ok-next-in-Live.ensures.turn by first last v from admits stands (subst (λ (p : Progress). HasSession v.live p) c.in-Live.is has) in (
+    let turn = c.in_ok-next-in-Live.ensures.turn by first last v from admits stands (subst (λ (p : Progress). JobHasSession v.live p) c.in-Live.is has) in (
       turn.0,
       turn.1,
       turn_as _ c.args.job.now c.args.progress.now (stages.Live c.in-Live.live) c.put_in_place-in-Live.result v turn.0 _ _ _ _ c.in-Live.is

@@ -3,7 +3,7 @@ use mir.Val.{SFits}
 use Rattle.std.proofs.Common.{rules}
 use Rattle.std.proofs.lemmas.Int.{to_z-of_z}
 use Rattle.std.specs.Prelude.{not}
-use Rattle.c_session.specs.Answer.{is_done}
+use Rattle.c_session.specs.Answer.{is_done_answer}
 use Rattle.c_session.specs.FileSession.{KeepsRead, file_state}
 use Rattle.c_session.specs.Session.{EndsWith}
 use Rattle.esdk_c.proofs.Called.{called_so, goes_on}
@@ -15,7 +15,7 @@ returns-clause-ends c =
     rw (to_z-of_z w32 c.hand_out.result fits)
     (called_so c.args.handle.now c.hand_out.new.handle c.hand_out.result _ c.in-Some.session.value c.in-Some.ensures.0
     (goes_on c.hand_out.new.handle c.hand_out.result
-    (λ a s t. KeepsRead s t a (λ x y. EndsWith file_state x y c.args.rest.now a)) (λ a. not (is_done a))
+    (λ a s t. KeepsRead s t a (λ x y. EndsWith file_state x y c.args.rest.now a)) (λ a. not (is_done_answer a))
     c.args.room.now c.hand_out.new.written c.hand_out.new.waits c.hand_out.new.room
     c.whole-answer.result _ c.in-Some.session.value c.whole-answer.new.self
     (rw c.deref_mut.ensures.value at c.whole-answer.ensures) c.hand_out.ensures cc))

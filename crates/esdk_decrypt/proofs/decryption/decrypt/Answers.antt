@@ -1,6 +1,6 @@
 use Rattle.std.proofs.Common.{◌≡◌, None, refl}
 use Rattle.esdk_decrypt.specs.Decrypt.{DecryptEnds, asked_from}
-use Rattle.esdk_decrypt.specs.Underway.{IsNew}
+use Rattle.esdk_decrypt.specs.Underway.{OpenerIsNew}
 use Rattle.esdk_decrypt.proofs.Concluding.{concludes_done, concludes_ends, lacks_first, passed_on}
 use Rattle.esdk_decrypt.proofs.Told.{decrypts_read, ends_read}
 use Rattle.esdk_decrypt.proofs.decryption.decrypt.Goals as goal
@@ -48,7 +48,7 @@ returns-in_err-end-clause-unasked g c =
 
 pub returns-clause-done : goal.returns-clause-done
 returns-clause-done g c =
-    let new : IsNew c.new-opener.result = record { settings = c.args.settings; given = c.args.given.now; stands = rw c.in_ok-copy.ensures at c.new-opener.ensures } in
+    let new : OpenerIsNew c.new-opener.result = record { settings = c.args.settings; given = c.args.given.now; stands = rw c.in_ok-copy.ensures at c.new-opener.ensures } in
     let w = c.in_ok-end.ensures.fed new in
     concludes_done g.M.Manager.state g.O.Sink.state c.args.now c.args.settings c.args.given.now c.args.manager.now c.feed_input.new.manager c.args.output.now c.feed_input.new.output
     (g.S.Source.state c.args.input.now) (g.S.Source.state c.feed_input.new.input) c.feed_input.new.opener c.in_ok-end.end c.conclude.result
@@ -56,7 +56,7 @@ returns-clause-done g c =
 
 pub returns-clause-ends : goal.returns-clause-ends
 returns-clause-ends g c =
-    let new : IsNew c.new-opener.result = record { settings = c.args.settings; given = c.args.given.now; stands = rw c.in_ok-copy.ensures at c.new-opener.ensures } in
+    let new : OpenerIsNew c.new-opener.result = record { settings = c.args.settings; given = c.args.given.now; stands = rw c.in_ok-copy.ensures at c.new-opener.ensures } in
     let w = c.in_ok-end.ensures.fed new in
     concludes_ends g.M.Manager.state g.O.Sink.state c.args.now c.args.settings c.args.given.now c.args.manager.now c.feed_input.new.manager c.args.output.now c.feed_input.new.output
     (g.S.Source.state c.args.input.now) (g.S.Source.state c.feed_input.new.input) c.feed_input.new.opener c.in_ok-end.end c.conclude.result

@@ -1,14 +1,14 @@
 use Rattle.std.proofs.Common.{◌≡◌, ◌++◌, List, ℕ, [], None, sym, ap, refl, subst}
 use Rattle.esdk_base.specs.ReceiverLaws.{takes_more, takes_none}
+use Rattle.esdk_base.specs.Receiver.{PutsAll}
 use Rattle.keyring_trait.proofs.Going.{went_on}
 use Rattle.stream_open.specs.Asking.{served_in}
 use Rattle.stream_open.specs.Receiving.{FedWhole}
-use Rattle.stream_open.specs.Session.{new_session}
+use Rattle.stream_open.specs.Session.{new_opening_session}
 use Rattle.stream_open.proofs.Feeding.{opened_goes}
 use Rattle.stream_open.proofs.PieceEnds.{whole_as_one, whole_none}
 use Rattle.whole_input.specs.Pieces.{PiecesValue}
 use Rattle.whole_input.specs.Taken.{Came}
-use Rattle.esdk_decrypt.specs.Underway.{PutsAll}
 use Rattle.esdk_decrypt.proofs.Breaking.{feed_bears, feed_ends, feed_unasked, none_asked}
 use Rattle.esdk_decrypt.proofs.Concluding.{lacks_first}
 use Rattle.esdk_decrypt.proofs.Pieces.{came_headless, well_ends, well_more, well_none}
@@ -33,12 +33,12 @@ pub reads-init : goal.reads-init
 reads-init g c =
     let first = c.requires.new in
     record {
-      going = record { session = new_session first.settings first.given; stands = first.stands; goes = opened_goes first.settings first.given };
+      going = record { session = new_opening_session first.settings first.given; stands = first.stands; goes = opened_goes first.settings first.given };
       went = c.requires.manager;
       lasts = g.met.S.Source.lasts_none _;
       bytes = [];
       well = well_none (g.S.Source.state c.args.input.now) c.in_ok-pieces.pieces.taken (ap (λ (p : PiecesValue). p.taken) c.in_ok-pieces.ensures);
-      fed = λ new. whole_none g.M.Manager.state (PutsAll g.O.Sink.state) c.args.now (new_session new.settings new.given) c.args.manager.now c.args.output.now c.args.opener.now (opened_goes new.settings new.given)
+      fed = λ new. whole_none g.M.Manager.state (PutsAll g.O.Sink.state) c.args.now (new_opening_session new.settings new.given) c.args.manager.now c.args.output.now c.args.opener.now (opened_goes new.settings new.given)
           new.stands (λ r. takes_none (g.O.Sink.state r));
     }
 
@@ -57,9 +57,9 @@ reads-preserved g c =
       well = well_more (g.S.Source.state c.args.input.now) (g.S.Source.state c.reads.input) (g.S.Source.state c.next.new.input) c.reads.pieces.taken bytes c.next.new.self before.well next;
       fed = λ new.
           (let w = before.fed new in
-          subst (λ (p : List ℕ). FedWhole g.M.Manager.state (PutsAll g.O.Sink.state) c.args.now (new_session new.settings new.given) (bytes ++ p) c.args.manager.now c.feed_piece.new.manager
+          subst (λ (p : List ℕ). FedWhole g.M.Manager.state (PutsAll g.O.Sink.state) c.args.now (new_opening_session new.settings new.given) (bytes ++ p) c.args.manager.now c.feed_piece.new.manager
           c.args.output.now c.feed_piece.new.output c.feed_piece.new.opener) c.piece.ensures
-          (whole_as_one g.M.Manager.state (PutsAll g.O.Sink.state) c.args.now (new_session new.settings new.given) bytes _ c.args.manager.now c.reads.manager c.feed_piece.new.manager c.args.output.now
+          (whole_as_one g.M.Manager.state (PutsAll g.O.Sink.state) c.args.now (new_opening_session new.settings new.given) bytes _ c.args.manager.now c.reads.manager c.feed_piece.new.manager c.args.output.now
           c.reads.output c.feed_piece.new.output c.reads.opener c.feed_piece.new.opener w (c.in_default-feed_piece.ensures.fed w.fed.session w.fed.stands)
           (λ r s t xs ys. takes_more (g.O.Sink.state r) (g.O.Sink.state s) (g.O.Sink.state t) xs ys)));
     }

@@ -1,6 +1,7 @@
-use Rattle.esdk_decrypt.specs.Underway.{PutsAll, PutsFront}
+use Rattle.esdk_decrypt.specs.Underway.{PutsFront}
 use Rattle.esdk_decrypt.proofs.Breaking.{never_off}
 use Rattle.esdk_decrypt.proofs.decryption.feed_piece.Goals as goal
+use Rattle.esdk_base.specs.Receiver.{PutsAll}
 
 pub returns-in-Ok-clause-fed : goal.returns-in-Ok-clause-fed
 returns-in-Ok-clause-fed g c = λ v stands. c.in-Ok.ensures.fed v stands

@@ -1,7 +1,7 @@
 use Rattle.std.proofs.Common.{inl, inr, refl}
 use Rattle.std.proofs.lemmas.Result.{err_from_is_err_and}
 use Rattle.keyring_trait.specs.Saying.{said_last}
-use Rattle.esdk_encrypt.specs.Encrypt.{Asked, encryption_of}
+use Rattle.esdk_encrypt.specs.Encrypt.{EncryptAsked, encrypting_from}
 use Rattle.esdk_encrypt.specs.Gaining.{gaining}
 use Rattle.esdk_encrypt.proofs.Asking.{bears_done}
 use Rattle.esdk_encrypt.proofs.Ending.{ends_done, ends_stopped, ends_ungiven, ends_unstarted}
@@ -33,7 +33,7 @@ returns-in_err-given-clause-bears g c =
 
 pub returns-in_err-sealer-clause-ends : goal.returns-in_err-sealer-clause-ends
 returns-in_err-sealer-clause-ends g c =
-    let asked : Asked = encryption_of (said_last (g.M.Manager.state c.args.manager.now) (g.M.Manager.state c.ask.new.manager)) c.args.request.now c.args.options.now
+    let asked : EncryptAsked = encrypting_from (said_last (g.M.Manager.state c.args.manager.now) (g.M.Manager.state c.ask.new.manager)) c.args.request.now c.args.options.now
     c.args.options.frame_length c.args.options.max_keys in
     let p = err_from_is_err_and c.from_residual-in_err-sealer.result c.from_residual-in_err-sealer.ensures.1 in
     rw (p.1, p.2) (
@@ -67,14 +67,14 @@ write-requires g c = record {
 
 pub returns-clause-done : goal.returns-clause-done
 returns-clause-done g c =
-    let asked : Asked = encryption_of (said_last (g.M.Manager.state c.args.manager.now) (g.M.Manager.state c.ask.new.manager)) c.args.request.now c.args.options.now
+    let asked : EncryptAsked = encrypting_from (said_last (g.M.Manager.state c.args.manager.now) (g.M.Manager.state c.ask.new.manager)) c.args.request.now c.args.options.now
     c.args.options.frame_length c.args.options.max_keys in
     ends_done asked _ _ _ _ _ c.in_ok-given.given.draws c.in_ok-given.given.materials c.message_id-id.result c.write.result c.in_ok-given.ensures.given c.message_id-id.ensures c.in_ok-sealer.ensures.taken
     (c.write.ensures.writes c.in_ok-given.given.materials c.args.options.frame_length c.message_id-id.result c.requires.some c.in_ok-sealer.ensures.stands)
 
 pub returns-clause-ends : goal.returns-clause-ends
 returns-clause-ends g c =
-    let asked : Asked = encryption_of (said_last (g.M.Manager.state c.args.manager.now) (g.M.Manager.state c.ask.new.manager)) c.args.request.now c.args.options.now
+    let asked : EncryptAsked = encrypting_from (said_last (g.M.Manager.state c.args.manager.now) (g.M.Manager.state c.ask.new.manager)) c.args.request.now c.args.options.now
     c.args.options.frame_length c.args.options.max_keys in
     ends_stopped asked _ _ _ _ _ c.in_ok-given.given.draws c.in_ok-given.given.materials c.message_id-id.result _ _ c.write.result c.in_ok-given.ensures.given c.message_id-id.ensures c.in_ok-sealer.ensures.taken
     (c.write.ensures.writes c.in_ok-given.given.materials c.args.options.frame_length c.message_id-id.result c.requires.some c.in_ok-sealer.ensures.stands)

@@ -1,6 +1,6 @@
 use Rattle.std.proofs.Common.{[], arith, refl}
 use Rattle.std.proofs.lemmas.Result.{err_from_is_err_and}
-use Rattle.esdk_encrypt.specs.Writing.{session_of}
+use Rattle.esdk_encrypt.specs.Writing.{sealing_of_text}
 use Rattle.esdk_encrypt.proofs.Input.{ended_most, feeding_fails, feeding_more, feeding_names, feeding_none}
 use Rattle.esdk_encrypt.proofs.Messages.{concludes, header_fails}
 use Rattle.esdk_encrypt.proofs.writing.write.Goals as goal
@@ -9,13 +9,13 @@ use Rattle.esdk_encrypt.proofs.writing.write.Goals as goal
 
 pub returns-in_default-clause-writes : goal.returns-in_default-clause-writes
 returns-in_default-clause-writes g c = λ m size id wide stands.
-    header_fails g.O.Receiver.takes g.O.Receiver.fails m size id g.met.O.Receiver.takes_none _ _ _ c.header.result.now _ (c.header.ensures (session_of m size id []) stands) c.in_default.ensures
+    header_fails g.O.Receiver.takes g.O.Receiver.fails m size id g.met.O.Receiver.takes_none _ _ _ c.header.result.now _ (c.header.ensures (sealing_of_text m size id []) stands) c.in_default.ensures
 
 pub reads-init : goal.reads-init
 reads-init g c = record {
   few = omega (arith, c.requires.none);
   feeds = λ m size id wide stands.
-      feeding_none g.O.Receiver.takes m size id wide _ _ _ _ _ c.header.result.now (c.header.ensures (session_of m size id []) stands) stands c.in-Ok.ensures c.requires.none;
+      feeding_none g.O.Receiver.takes m size id wide _ _ _ _ _ c.header.result.now (c.header.ensures (sealing_of_text m size id []) stands) stands c.in-Ok.ensures c.requires.none;
   most = omega arith;
 }
 
@@ -52,13 +52,13 @@ pub conclude-requires : goal.conclude-requires
 conclude-requires g c =
     let new = c.requires.unfed in
     let feeding = c.reads.invariant.feeds new.materials new.size new.id new.wide new.stands in
-    record { session = session_of new.materials new.size new.id feeding.text; stands = feeding.stands; goes = refl }
+    record { session = sealing_of_text new.materials new.size new.id feeding.text; stands = feeding.stands; goes = refl }
 
 pub returns-in-Err-clause-writes : goal.returns-in-Err-clause-writes
 returns-in-Err-clause-writes g c = λ m size id wide stands.
     let feeding = c.reads.invariant.feeds m size id wide stands in
     concludes g.O.Receiver.takes g.O.Receiver.fails m size id g.met.O.Receiver.takes_more wide _ _ _ _ _ _ _ _ feeding c.next.new.self c.in-Err.end c.conclude.result c.in-Err.ensures.next
-    (c.conclude.ensures (session_of m size id feeding.text) feeding.stands refl)
+    (c.conclude.ensures (sealing_of_text m size id feeding.text) feeding.stands refl)
 
 pub returns-in-Err-clause-taken : goal.returns-in-Err-clause-taken
 returns-in-Err-clause-taken g c = omega (arith, ended_most _ _ _ c.next.new.self c.in-Err.end c.in-Err.ensures.next, c.reads.invariant.most, c.reads.invariant.few)

@@ -1,6 +1,6 @@
 use Rattle.std.proofs.Common.{◌∙◌, ap, is_none, refl, sym}
 use Rattle.std.specs.declared.option.Option.{Option}
-use Rattle.cmm_caching.specs.Asked.{limits_of}
+use Rattle.cmm_caching.specs.Asked.{store_limits}
 use Rattle.cmm_caching.specs.Store.{Store}
 use Rattle.desk_core.specs.Desk.{empty_desk}
 use Rattle.esdk_batch.proofs.ShelfCalls.{most_never}
@@ -30,8 +30,8 @@ pub returns-clause-ages : goal.returns-clause-ages
 returns-clause-ages g c =
     serves_in_time _ c.args.jobs.now (g.F.Shelf.state c.args.shelf.now).files (g.F.Shelf.state c.run_batch-ended.new.shelf).files (g.W.Entropy.state c.args.entropy.now) (g.W.Entropy.state c.run_batch-ended.new.entropy)
     c.new-desk.result.journal.items c.run_batch-ended.new.desk.journal.items c.journal-journal.result.now (g.C.Clock.state c.args.clock.now) (g.C.Clock.state c.run_batch-ended.new.clock)
-    (limits_of c.new-desk.result.manager.1) c.run_batch-ended.result c.new-desk.ensures.stands.journal c.journal-journal.ensures.journal
-    (ap (λ (v : g.row.K.Denot × Option Store). limits_of v.1) c.new-desk.ensures.manager ∙ c.in_ok-manager.ensures.limits ∙ c.cache.ensures)
+    (store_limits c.new-desk.result.manager.1) c.run_batch-ended.result c.new-desk.ensures.stands.journal c.journal-journal.ensures.journal
+    (ap (λ (v : g.row.K.Denot × Option Store). store_limits v.1) c.new-desk.ensures.manager ∙ c.in_ok-manager.ensures.limits ∙ c.cache.ensures)
     (c.run_batch-ended.ensures.went.limits c.journal-journal.result.now (c.journal-journal.ensures.within (c.run_batch-ended.ensures.bears c.new-desk.ensures.bears)))
     c.run_batch-ended.ensures.moments (c.run_batch-ended.ensures.runs empty_desk c.new-desk.ensures.stands)
 

@@ -2,7 +2,7 @@ use Rattle.std.proofs.Common.{◌≡◌, ◌∙◌, Some, None, inr, refl}
 use Rattle.std.specs.Prelude.{⊤}
 use Rattle.esdk_base.specs.Streams.{SinkState, SourceState}
 use Rattle.multi_keyring.specs.Tree.{tree_meaning}
-use Rattle.esdk_run.specs.Decrypt.{limits_of}
+use Rattle.esdk_run.specs.Decrypt.{decrypt_settings}
 use Rattle.esdk_run.specs.Objects.{as_before}
 use Rattle.esdk_run.specs.Pairs.{required_in}
 use Rattle.esdk_run.specs.Trees.{trees_of}
@@ -26,8 +26,8 @@ returns-clause-runs g c = λ entropy.
     decryption_ran (trees_of g.P.Keyring.meaning c.args.plugs.items (Some c.into_ring.result)) c.args.asked.now _ _
     (as_before _ _ _ ⊤) _ c.in-Ok.prepared.context _ _ c.decrypt_input-ended.result
     (has_tree g.P.Keyring.meaning _ _ _ _ _ _ manager left c.into_ring.result has back c.decrypt_input-ended.ensures.went)
-    (decrypts_as_more c.args.asked.now.armour _ _ (limits_of c.args.asked.now) c.in-Ok.prepared.context input taken output put c.decrypt_input-ended.result allows c.decrypt_input-ended.ensures.done)
-    (stops_as_more c.args.asked.now.armour _ _ (limits_of c.args.asked.now) c.in-Ok.prepared.context input taken output put (c.decrypt_input-ended.new.output ≡ c.args.output.now) c.decrypt_input-ended.result allows c.decrypt_input-ended.ensures.ends)
+    (decrypts_as_more c.args.asked.now.armour _ _ (decrypt_settings c.args.asked.now) c.in-Ok.prepared.context input taken output put c.decrypt_input-ended.result allows c.decrypt_input-ended.ensures.done)
+    (stops_as_more c.args.asked.now.armour _ _ (decrypt_settings c.args.asked.now) c.in-Ok.prepared.context input taken output put (c.decrypt_input-ended.new.output ≡ c.args.output.now) c.decrypt_input-ended.result allows c.decrypt_input-ended.ensures.ends)
     c.report_end.ensures.told c.report_end.ensures.said
 
 pub returns-in-Err-clause-runs : goal.returns-in-Err-clause-runs

@@ -1,9 +1,9 @@
 use Rattle.std.proofs.Common.{◌≡◌, ◌∙◌, Some, None, inr, refl}
 use Rattle.std.specs.Prelude.{⊤}
+use Rattle.header_codec.specs.Header.{no_limits}
 use Rattle.esdk_base.specs.Streams.{ShelfState, SinkState}
 use Rattle.multi_keyring.specs.Tree.{tree_meaning}
 use Rattle.extract_core.proofs.Allowed.{extract_stops_more, extracts_more}
-use Rattle.esdk_batch.specs.Answering.{no_limits}
 use Rattle.esdk_run.specs.Extract.{range_asked}
 use Rattle.esdk_run.specs.Objects.{as_before}
 use Rattle.esdk_run.specs.Pairs.{required_in}

@@ -1,6 +1,6 @@
 use Rattle.std.proofs.Common.{ℕ, ◌+◌, ◌*◌, ◌∙◌, arith}
 use Rattle.cipher_spec.specs.Ghash.{times}
-use Rattle.ghash_core.specs.Tables.{pair}
+use Rattle.ghash_core.specs.Tables.{lane_pair}
 use Rattle.ghash_core.proofs.Gathered.{half_sum-next, lanes_begun, lanes_folded}
 use Rattle.ghash_core.proofs.Products.{two_bytes_times, two_bytes_times-lt, two_bytes_looked, two_products}
 use Rattle.ghash_core.proofs.product.times_two.Goals as goal
@@ -13,7 +13,7 @@ each-preserved c h made t i half within =
     let k = c.each.k in
     let x = c.args.x in
     let y = c.args.y in
-    half_sum-next (two_bytes_times h x y) c.sum_of_two-p.result t i k (pair c.each.sums.high c.each.sums.low (2 * t + i)) _ (omega arith) half c.sum_of_two-p.ensures.long
+    half_sum-next (two_bytes_times h x y) c.sum_of_two-p.result t i k (lane_pair c.each.sums.high c.each.sums.low (2 * t + i)) _ (omega arith) half c.sum_of_two-p.ensures.long
     (λ j l. two_bytes_looked h x y j (8 * t + k) _ _ _ _ _ (c.bytes_twice-u.ensures t j half l) (c.bytes_twice-v.ensures t j half l)
     (c.added.ensures.lanes (times h h) k (made.second k (omega arith) _) t j half l) (c.added-in-each.ensures.lanes h k (made.first k (omega arith) _) t j half l) (c.sum_of_two-p.ensures.lanes (16 * t + j) (omega arith)))
     (c.each.invariant h made t i half within) (c.next-sums.ensures t i half within)

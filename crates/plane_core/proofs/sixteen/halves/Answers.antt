@@ -1,6 +1,6 @@
 use Rattle.std.proofs.Common.{◌≡◌, ◌+◌, ℕ, List}
 use Rattle.plane_core.specs.declared.planes.Planes.{Planes}
-use Rattle.plane_core.specs.Grid.{word_at}
+use Rattle.plane_core.specs.Grid.{plane_word}
 use Rattle.plane_core.specs.Places.{lane_bit, wide_bit}
 use Rattle.plane_core.proofs.Blocks.{each_of_eight}
 use Rattle.plane_core.proofs.WideBlocks.{bit_low, bit_high, block_of_half}
@@ -10,7 +10,7 @@ pub returns-clause-low : goal.returns-clause-low
 returns-clause-low c b l =
     let x : Planes (List ℕ) = c.args.x.now in
     let p : Planes (List ℕ) = record { b0 = c.joined.result; b1 = c.joined-2.result; b2 = c.joined-3.result; b3 = c.joined-4.result; b4 = c.joined-5.result; b5 = c.joined-6.result; b6 = c.joined-7.result; b7 = c.joined-8.result } in
-    block_of_half p x b b (λ q j s h. each_of_eight (λ q. wide_bit (word_at p q) j b ≡ lane_bit (word_at x q) j b)
+    block_of_half p x b b (λ q j s h. each_of_eight (λ q. wide_bit (plane_word p q) j b ≡ lane_bit (plane_word x q) j b)
     (bit_low c.joined.result x.b0 c.joined.ensures.low j b h l)
     (bit_low c.joined-2.result x.b1 c.joined-2.ensures.low j b h l)
     (bit_low c.joined-3.result x.b2 c.joined-3.ensures.low j b h l)
@@ -25,7 +25,7 @@ pub returns-clause-high : goal.returns-clause-high
 returns-clause-high c b l =
     let x : Planes (List ℕ) = c.args.y.now in
     let p : Planes (List ℕ) = record { b0 = c.joined.result; b1 = c.joined-2.result; b2 = c.joined-3.result; b3 = c.joined-4.result; b4 = c.joined-5.result; b5 = c.joined-6.result; b6 = c.joined-7.result; b7 = c.joined-8.result } in
-    block_of_half p x (8 + b) b (λ q j s h. each_of_eight (λ q. wide_bit (word_at p q) j (8 + b) ≡ lane_bit (word_at x q) j b)
+    block_of_half p x (8 + b) b (λ q j s h. each_of_eight (λ q. wide_bit (plane_word p q) j (8 + b) ≡ lane_bit (plane_word x q) j b)
     (bit_high c.joined.result x.b0 c.joined.ensures.high j b h l)
     (bit_high c.joined-2.result x.b1 c.joined-2.ensures.high j b h l)
     (bit_high c.joined-3.result x.b2 c.joined-3.ensures.high j b h l)

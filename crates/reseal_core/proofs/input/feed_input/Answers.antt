@@ -7,7 +7,7 @@ use Rattle.stream_open.specs.Asking.{served_in}
 use Rattle.esdk_decrypt.proofs.Concluding.{passed_on}
 use Rattle.esdk_decrypt.proofs.Pieces.{CameWell, came_headless, well_none}
 use Rattle.reseal_core.specs.declared.errors.InputError.TheVariants.{Memory}
-use Rattle.reseal_core.specs.Session.{gone_on, new_session}
+use Rattle.reseal_core.specs.Session.{gone_on, new_resealing_session}
 use Rattle.reseal_core.proofs.Bearing.{bears_same, made_fed, made_none, made_short}
 use Rattle.reseal_core.proofs.Concluding.{memory_first}
 use Rattle.reseal_core.proofs.Feeding.{input_ends, is_unfed, left_is, left_then, reached_none}
@@ -31,8 +31,8 @@ steps-init g c =
       opening = c.requires.opening;
       sealing = c.requires.sealing;
       random = ap (length {A = ℕ}) (b.stands.going refl).written.random_is ∙ b.count;
-      going = record { session = new_session b.settings b.given b.size b.random; stands = b.stands; going = refl };
-      bears = made_none (g.B.Manager.state c.args.sealing.now) c.args.now c.args.resealer.now (new_session b.settings b.given b.size b.random) b.stands refl refl;
+      going = record { session = new_resealing_session b.settings b.given b.size b.random; stands = b.stands; going = refl };
+      bears = made_none (g.B.Manager.state c.args.sealing.now) c.args.now c.args.resealer.now (new_resealing_session b.settings b.given b.size b.random) b.stands refl refl;
       lasts = g.met.S.Source.lasts_none _;
       bytes = [];
       well = subst (λ (p : List ℕ). CameWell (g.S.Source.state c.args.input.now) (g.S.Source.state c.args.input.now) c.in_ok-pieces.pieces.taken p) (sym (ap (λ (p : PiecesValue). p.piece) c.in_ok-pieces.ensures))
@@ -54,8 +54,8 @@ steps-smaller g c =
     let b = c.requires.begins in
     let r = i.reached b.settings b.given b.size b.random b.stands in
     let left = left_is c.piece.result.now c.unfed.new.pieces.piece c.in-Ok.from c.piece.ensures in
-    let s = rw left at c.in-Ok-step.ensures.steps (gone_on (new_session b.settings b.given b.size b.random) r.fed.session r.materials) r.stands refl in
-    let stays = rw left at c.step.ensures.unasked (gone_on (new_session b.settings b.given b.size b.random) r.fed.session r.materials) r.stands in
+    let s = rw left at c.in-Ok-step.ensures.steps (gone_on (new_resealing_session b.settings b.given b.size b.random) r.fed.session r.materials) r.stands refl in
+    let stays = rw left at c.step.ensures.unasked (gone_on (new_resealing_session b.settings b.given b.size b.random) r.fed.session r.materials) r.stands in
     let fed = steps_fed g.A.Manager.state g.B.Manager.state c.args.now b.settings b.given b.size b.random i.bytes c.args.opening.now c.steps.opening c.args.sealing.now c.steps.sealing (g.O.Sink.state c.args.output.now)
     (g.O.Sink.state c.steps.output) c.steps.resealer r (drop c.in-Ok.from c.unfed.new.pieces.piece) c.step.new.opening c.step.new.sealing (g.O.Sink.state c.step.new.output) c.step.new.self _
     (omega (arith, u.some, length-drop c.in-Ok.from c.unfed.new.pieces.piece)) stays c.in-Ok-step.used s in
@@ -72,8 +72,8 @@ steps-preserved g c =
     let r = i.reached b.settings b.given b.size b.random b.stands in
     let mine = steps_fed g.A.Manager.state g.B.Manager.state c.args.now b.settings b.given b.size b.random i.bytes c.args.opening.now c.steps.opening c.args.sealing.now c.steps.sealing (g.O.Sink.state c.args.output.now)
     (g.O.Sink.state c.steps.output) c.steps.resealer r (drop from piece) c.step.new.opening c.step.new.sealing (g.O.Sink.state c.step.new.output) c.step.new.self (c.step.new.output ≡ c.steps.output)
-    (omega (arith, u.some, length-drop from piece)) (rw left at c.step.ensures.unasked (gone_on (new_session b.settings b.given b.size b.random) r.fed.session r.materials) r.stands) c.in-Ok-step.used
-    (rw left at c.in-Ok-step.ensures.steps (gone_on (new_session b.settings b.given b.size b.random) r.fed.session r.materials) r.stands refl) in
+    (omega (arith, u.some, length-drop from piece)) (rw left at c.step.ensures.unasked (gone_on (new_resealing_session b.settings b.given b.size b.random) r.fed.session r.materials) r.stands) c.in-Ok-step.used
+    (rw left at c.in-Ok-step.ensures.steps (gone_on (new_resealing_session b.settings b.given b.size b.random) r.fed.session r.materials) r.stands refl) in
     record {
       within = omega (arith, u.some, mine.within, length-drop from piece);
       few = u.few;
@@ -91,8 +91,8 @@ steps-preserved g c =
           (let r = i.reached settings given size random stands in
           (steps_fed g.A.Manager.state g.B.Manager.state c.args.now settings given size random i.bytes c.args.opening.now c.steps.opening c.args.sealing.now c.steps.sealing (g.O.Sink.state c.args.output.now)
           (g.O.Sink.state c.steps.output) c.steps.resealer r (drop from piece) c.step.new.opening c.step.new.sealing (g.O.Sink.state c.step.new.output) c.step.new.self (c.step.new.output ≡ c.steps.output)
-          (omega (arith, u.some, length-drop from piece)) (rw left at c.step.ensures.unasked (gone_on (new_session settings given size random) r.fed.session r.materials) r.stands) c.in-Ok-step.used
-          (rw left at c.in-Ok-step.ensures.steps (gone_on (new_session settings given size random) r.fed.session r.materials) r.stands refl)).reached);
+          (omega (arith, u.some, length-drop from piece)) (rw left at c.step.ensures.unasked (gone_on (new_resealing_session settings given size random) r.fed.session r.materials) r.stands) c.in-Ok-step.used
+          (rw left at c.in-Ok-step.ensures.steps (gone_on (new_resealing_session settings given size random) r.fed.session r.materials) r.stands refl)).reached);
     }
 
 pub named-requires : goal.named-requires
@@ -104,8 +104,8 @@ named-requires g c = λ stopped.
     let u = is_unfed (g.S.Source.state c.args.input.now) (g.S.Source.state c.steps.input) (g.S.Source.state c.unfed.new.input) c.steps.pieces c.unfed.new.pieces c.steps.fed c.in-Ok.from i.bytes i.few i.well (rw c.in-Ok.is at c.unfed.ensures.unfed) in
     unstopped g.A.Manager.state g.B.Manager.state c.args.now b.settings b.given b.size b.random i.bytes c.args.opening.now c.steps.opening c.args.sealing.now c.steps.sealing (g.O.Sink.state c.args.output.now)
     (g.O.Sink.state c.steps.output) c.steps.resealer r (drop c.in-Ok.from c.unfed.new.pieces.piece) c.step.new.opening c.step.new.sealing (g.O.Sink.state c.step.new.output) c.step.new.self _
-    (omega (arith, u.some, length-drop c.in-Ok.from c.unfed.new.pieces.piece)) (rw left at c.step.ensures.unasked (gone_on (new_session b.settings b.given b.size b.random) r.fed.session r.materials) r.stands)
-    (rw (stopped, left) at c.in-Err-step.ensures.steps (gone_on (new_session b.settings b.given b.size b.random) r.fed.session r.materials) r.stands refl)
+    (omega (arith, u.some, length-drop c.in-Ok.from c.unfed.new.pieces.piece)) (rw left at c.step.ensures.unasked (gone_on (new_resealing_session b.settings b.given b.size b.random) r.fed.session r.materials) r.stands)
+    (rw (stopped, left) at c.in-Err-step.ensures.steps (gone_on (new_resealing_session b.settings b.given b.size b.random) r.fed.session r.materials) r.stands refl)
 
 pub returns-in-Err-step-clause-ends : goal.returns-in-Err-step-clause-ends
 returns-in-Err-step-clause-ends g c = λ settings given size random stands.
@@ -115,9 +115,9 @@ returns-in-Err-step-clause-ends g c = λ settings given size random stands.
     let u = is_unfed (g.S.Source.state c.args.input.now) (g.S.Source.state c.steps.input) (g.S.Source.state c.unfed.new.input) c.steps.pieces c.unfed.new.pieces c.steps.fed c.in-Ok.from i.bytes i.few i.well (rw c.in-Ok.is at c.unfed.ensures.unfed) in
     step_ends g.A.Manager.state g.B.Manager.state c.args.now settings given size random i.bytes c.args.opening.now c.steps.opening c.args.sealing.now c.steps.sealing (g.O.Sink.state c.args.output.now)
     (g.O.Sink.state c.steps.output) c.steps.resealer r (drop c.in-Ok.from c.unfed.new.pieces.piece) c.step.new.opening c.step.new.sealing (g.O.Sink.state c.step.new.output) c.step.new.self (c.step.new.output ≡ c.steps.output)
-    (omega (arith, u.some, length-drop c.in-Ok.from c.unfed.new.pieces.piece)) (rw left at c.step.ensures.unasked (gone_on (new_session settings given size random) r.fed.session r.materials) r.stands)
+    (omega (arith, u.some, length-drop c.in-Ok.from c.unfed.new.pieces.piece)) (rw left at c.step.ensures.unasked (gone_on (new_resealing_session settings given size random) r.fed.session r.materials) r.stands)
     (ap g.O.Sink.state) (g.S.Source.state c.args.input.now) (g.S.Source.state c.unfed.new.input) u.well.came u.well.faults (omega (arith, u.few, length-drop c.in-Ok.from c.unfed.new.pieces.piece)) c.in-Err-step.error c.named.result
-    (rw left at c.in-Err-step.ensures.steps (gone_on (new_session settings given size random) r.fed.session r.materials) r.stands refl) c.named.ensures
+    (rw left at c.in-Err-step.ensures.steps (gone_on (new_resealing_session settings given size random) r.fed.session r.materials) r.stands refl) c.named.ensures
 
 -- ---- what the managers bear, and the input
 
@@ -152,8 +152,8 @@ returns-in-Err-step-clause-unseals g c =
     let u = is_unfed (g.S.Source.state c.args.input.now) (g.S.Source.state c.steps.input) (g.S.Source.state c.unfed.new.input) c.steps.pieces c.unfed.new.pieces c.steps.fed c.in-Ok.from i.bytes i.few i.well (rw c.in-Ok.is at c.unfed.ensures.unfed) in
     opened_bears g.A.Manager.state g.B.Manager.state c.args.now b.settings b.given b.size b.random i.bytes c.args.opening.now c.steps.opening c.args.sealing.now c.steps.sealing (g.O.Sink.state c.args.output.now)
     (g.O.Sink.state c.steps.output) c.steps.resealer r (drop c.in-Ok.from c.unfed.new.pieces.piece) c.step.new.opening c.step.new.sealing (g.O.Sink.state c.step.new.output) c.step.new.self (c.step.new.output ≡ c.steps.output)
-    (omega (arith, u.some, length-drop c.in-Ok.from c.unfed.new.pieces.piece)) (rw left at c.step.ensures.unasked (gone_on (new_session b.settings b.given b.size b.random) r.fed.session r.materials) r.stands)
-    _ (rw left at c.in-Err-step.ensures.steps (gone_on (new_session b.settings b.given b.size b.random) r.fed.session r.materials) r.stands refl)
+    (omega (arith, u.some, length-drop c.in-Ok.from c.unfed.new.pieces.piece)) (rw left at c.step.ensures.unasked (gone_on (new_resealing_session b.settings b.given b.size b.random) r.fed.session r.materials) r.stands)
+    _ (rw left at c.in-Err-step.ensures.steps (gone_on (new_resealing_session b.settings b.given b.size b.random) r.fed.session r.materials) r.stands refl)
 
 pub returns-in-Err-step-clause-seals : goal.returns-in-Err-step-clause-seals
 returns-in-Err-step-clause-seals g c =
@@ -161,8 +161,8 @@ returns-in-Err-step-clause-seals g c =
     let b = c.requires.begins in
     let r = i.reached b.settings b.given b.size b.random b.stands in
     made_short (g.B.Manager.state c.args.sealing.now) (g.B.Manager.state c.steps.sealing) (g.B.Manager.state c.step.new.sealing) c.args.now c.steps.resealer
-    (gone_on (new_session b.settings b.given b.size b.random) r.fed.session r.materials) r.stands refl i.bears
-    (c.in-Err-step.ensures.once (gone_on (new_session b.settings b.given b.size b.random) r.fed.session r.materials) r.stands refl)
+    (gone_on (new_resealing_session b.settings b.given b.size b.random) r.fed.session r.materials) r.stands refl i.bears
+    (c.in-Err-step.ensures.once (gone_on (new_resealing_session b.settings b.given b.size b.random) r.fed.session r.materials) r.stands refl)
 
 pub returns-in-Err-step-clause-lasts : goal.returns-in-Err-step-clause-lasts
 returns-in-Err-step-clause-lasts g c = g.met.S.Source.lasts_more _ _ _ c.steps.invariant.lasts c.unfed.ensures.lasts
@@ -188,6 +188,6 @@ returns-in-Err-step-clause-unasked g c = λ settings given size random stands ot
     let u = is_unfed (g.S.Source.state c.args.input.now) (g.S.Source.state c.steps.input) (g.S.Source.state c.unfed.new.input) c.steps.pieces c.unfed.new.pieces c.steps.fed c.in-Ok.from i.bytes i.few i.well (rw c.in-Ok.is at c.unfed.ensures.unfed) in
     step_unasked g.A.Manager.state g.B.Manager.state c.args.now settings given size random i.bytes c.args.opening.now c.steps.opening c.args.sealing.now c.steps.sealing (g.O.Sink.state c.args.output.now)
     (g.O.Sink.state c.steps.output) c.steps.resealer r (drop c.in-Ok.from c.unfed.new.pieces.piece) c.step.new.opening c.step.new.sealing (g.O.Sink.state c.step.new.output) c.step.new.self (c.step.new.output ≡ c.steps.output)
-    (omega (arith, u.some, length-drop c.in-Ok.from c.unfed.new.pieces.piece)) (rw left at c.step.ensures.unasked (gone_on (new_session settings given size random) r.fed.session r.materials) r.stands)
+    (omega (arith, u.some, length-drop c.in-Ok.from c.unfed.new.pieces.piece)) (rw left at c.step.ensures.unasked (gone_on (new_resealing_session settings given size random) r.fed.session r.materials) r.stands)
     (came_headless settings (g.S.Source.state c.args.input.now) (g.S.Source.state c.unfed.new.input) (i.bytes ++ drop c.in-Ok.from c.unfed.new.pieces.piece) others u.well.came told none)
-    c.in-Err-step.error (rw left at c.in-Err-step.ensures.steps (gone_on (new_session settings given size random) r.fed.session r.materials) r.stands refl)
+    c.in-Err-step.error (rw left at c.in-Err-step.ensures.steps (gone_on (new_resealing_session settings given size random) r.fed.session r.materials) r.stands refl)

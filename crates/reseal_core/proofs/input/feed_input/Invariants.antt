@@ -3,7 +3,7 @@ use Rattle.context_codec.specs.Context.{KeyValue}
 use Rattle.header_codec.specs.declared.settings.Settings.{Settings}
 use Rattle.keyring_trait.specs.Manager.{Went}
 use Rattle.esdk_decrypt.proofs.Pieces.{CameWell}
-use Rattle.reseal_core.specs.Session.{new_session}
+use Rattle.reseal_core.specs.Session.{new_resealing_session}
 use Rattle.reseal_core.specs.Stands.{BearsMade, Stands}
 use Rattle.reseal_core.specs.Underway.{IsUnstopped, Reached}
 use Rattle.reseal_core.proofs.input.feed_input.Given as goal
@@ -20,8 +20,8 @@ invariant-steps g l = record {
   lasts : g.S.Source.lasts l.fn.input l.input;
   bytes : List ℕ;
   well : CameWell (g.S.Source.state l.fn.input) (g.S.Source.state l.input) l.pieces.taken (bytes ++ drop l.fed l.pieces.piece);
-  reached : (settings : Settings) (given : List KeyValue) (size : ℕ) (random : List ℕ) → Stands l.fn.resealer (new_session settings given size random)
-      → Reached g.A.Manager.state g.B.Manager.state l.now (new_session settings given size random) bytes l.fn.opening l.opening l.fn.sealing l.sealing (g.O.Sink.state l.fn.output) (g.O.Sink.state l.output) l.resealer;
+  reached : (settings : Settings) (given : List KeyValue) (size : ℕ) (random : List ℕ) → Stands l.fn.resealer (new_resealing_session settings given size random)
+      → Reached g.A.Manager.state g.B.Manager.state l.now (new_resealing_session settings given size random) bytes l.fn.opening l.opening l.fn.sealing l.sealing (g.O.Sink.state l.fn.output) (g.O.Sink.state l.output) l.resealer;
 }
 
 abbrev pub decreases-steps : goal.decreases-steps

@@ -1,5 +1,5 @@
 use Rattle.std.proofs.Common.{◌≡◌}
-use Rattle.armour_core.specs.ReaderOutlook.{Awaits, KeepsOutlook, turns_left}
+use Rattle.armour_core.specs.ReaderOutlook.{Awaits, KeepsOutlook, text_turns_left}
 use Rattle.armour_core.proofs.source.UnarmouredSource.take_some.Given as goal
 
 abbrev pub invariant-loop-self : goal.invariant-loop-self
@@ -16,4 +16,4 @@ invariant-loop-self g l = record {
 }
 
 abbrev pub decreases-loop-self : goal.decreases-loop-self
-decreases-loop-self g l = turns_left l.self.reader
+decreases-loop-self g l = text_turns_left l.self.reader

@@ -1,5 +1,5 @@
 use Rattle.std.proofs.Common.{refl, slice_index, sym, subst, ◌∙◌}
-use Rattle.armour_core.specs.Stands.{Reads, TakesByte}
+use Rattle.armour_core.specs.Stands.{StandsReading, TakesByte}
 use Rattle.armour_core.proofs.Reading.{stays_stopped}
 use Rattle.armour_core.proofs.Stepping.{step_begins, step_ends, step_gives, step_goes_on, step_refuses, step_stopped}
 use Rattle.armour_core.proofs.unarmour.Unarmour.step.Goals as goal
@@ -9,7 +9,7 @@ returns-then-self-clause-answer c = λ v reads. sym (step_stopped v c.args.piece
 
 pub returns-then-self-clause-reads : goal.returns-then-self-clause-reads
 returns-then-self-clause-reads c = λ v reads.
-    subst (Reads _) (sym (step_stopped v c.args.piece.now (sym reads.stopped ∙ c.if-self.true)).1) (stays_stopped _ v c.if-self.true refl)
+    subst (StandsReading _) (sym (step_stopped v c.args.piece.now (sym reads.stopped ∙ c.if-self.true)).1) (stays_stopped _ v c.if-self.true refl)
 
 pub loop-used-init : goal.loop-used-init
 loop-used-init c = step_begins c.args.self.now _ c.args.piece.now refl refl refl refl c.if-self.false refl

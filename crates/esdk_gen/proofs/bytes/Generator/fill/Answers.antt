@@ -1,6 +1,6 @@
 use Rattle.std.proofs.Common.{◌≡◌, ◌∷◌, ◌++◌, ℕ, List, [], arith, sym, ◌∙◌, ap, length}
 use Rattle.std.proofs.lemmas.List.{length-set, take_all, take_more_set}
-use Rattle.esdk_gen.specs.Bytes.{byte_of, gen_bytes, next_state, state_after}
+use Rattle.esdk_gen.specs.Bytes.{top_byte, gen_bytes, next_state, state_after}
 use Rattle.esdk_gen.proofs.Sequence.{bytes_none, bytes_push, state_none, state_push}
 use Rattle.esdk_gen.proofs.bytes.Generator.fill.Goals as goal
 
@@ -16,7 +16,7 @@ loop-i-preserved c =
     let x : ℕ = c.args.self.now.state in
     let n : ℕ = c.loop-i.i in
     let before = c.loop-i.invariant in
-    let byte : c.next.result ≡ byte_of (next_state (state_after x n)) = c.next.ensures.byte ∙ ap (λ (s : ℕ). byte_of (next_state s)) before.state in
+    let byte : c.next.result ≡ top_byte (next_state (state_after x n)) = c.next.ensures.byte ∙ ap (λ (s : ℕ). top_byte (next_state s)) before.state in
     record {
       filled = take_more_set c.loop-i.out n c.next.result (omega arith) ∙ ap (λ (l : List ℕ). l ++ c.next.result ∷ []) before.filled
           ∙ ap (λ (b : ℕ). gen_bytes x n ++ b ∷ []) byte ∙ sym (bytes_push x n);

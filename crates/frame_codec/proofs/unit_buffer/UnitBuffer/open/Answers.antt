@@ -1,10 +1,10 @@
 use Rattle.std.proofs.Common.{◌≡◌, ◌+◌, ℕ, List, [], length, Option, Some, None, refl, ap, arith}
 use Rattle.frame_codec.specs.declared.unit_buffer.Span.{Span}
-use Rattle.frame_codec.specs.UnitBuffer.{UnitValue, held_in, out_in}
+use Rattle.frame_codec.specs.UnitBuffer.{UnitValue, held_in, unit_out}
 use Rattle.frame_codec.proofs.unit_buffer.UnitBuffer.open.Goals as goal
 
 -- while bytes of a unit are held, no content is given
-holding : (opened : Option Span) (old new : List ℕ) (n : ℕ) → length (held_in opened old) ≡ n + 16 → out_in opened new ≡ []
+holding : (opened : Option Span) (old new : List ℕ) (n : ℕ) → length (held_in opened old) ≡ n + 16 → unit_out opened new ≡ []
 holding None old new n long = refl
 holding (Some span) old new n long = absurd (omega arith)
 

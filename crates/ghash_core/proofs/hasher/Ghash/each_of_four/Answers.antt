@@ -1,7 +1,7 @@
 use Rattle.std.proofs.Common.{◌≡◌, [], map, slice_index_or, refl, sym, ap, subst, ◌∙◌}
 use Rattle.std.specs.Int.{w128, from_be_bytes}
 use Rattle.cipher_spec.specs.Ghash.{ghash_from}
-use Rattle.ghash_core.specs.State.{State}
+use Rattle.ghash_core.specs.State.{HashState}
 use Rattle.ghash_core.specs.Tables.{settled, IsPowers}
 use Rattle.ghash_core.proofs.Blocks.{map-by_place}
 use Rattle.ghash_core.proofs.Ring.{hash_by_powers}
@@ -13,8 +13,8 @@ returns c =
     let h = c.args.self.now.key in
     let y = c.args.self.now.hash in
     let blocks = c.args.blocks.now in
-    let key : k ≡ h = ap (λ (s : State). s.key) c.self.view_is in
-    let hash : settled k c.self.inside.hash c.self.inside.waiting ≡ y = ap (λ (s : State). s.hash) c.self.view_is in
+    let key : k ≡ h = ap (λ (s : HashState). s.key) c.self.view_is in
+    let hash : settled k c.self.inside.hash c.self.inside.waiting ≡ y = ap (λ (s : HashState). s.hash) c.self.view_is in
     let before : c.settled-hash.result ≡ y = c.settled-hash.ensures k c.self.invariant ∙ hash in
     let made = subst (IsPowers c.self.inside.powers) key c.self.invariant in
     let four = map-by_place (from_be_bytes w128) blocks 4 [] 0 c.told-blocks in

@@ -6,7 +6,7 @@ use Rattle.esdk_fields.specs.Place.{Place}
 use Rattle.header_codec.specs.declared.progress.Front.{Front}
 use Rattle.header_codec.specs.Header.{HeaderValue, IsKept}
 use Rattle.header_codec.specs.Parts.{ending_fields}
-use Rattle.header_codec.specs.Rest.{ending, behind}
+use Rattle.header_codec.specs.Rest.{ending, place_past}
 use Rattle.header_codec.specs.Table.{BeginsWith}
 use Rattle.header_codec.proofs.Whole.{kept, lock_kept}
 use Rattle.header_codec.proofs.Progressing.{ending_stops, ending_read, found_whole, some_same}
@@ -18,7 +18,7 @@ cursor_at-cursor-requires c = subst (λ (b : List ℕ). c.args.self.now.at ≤ l
 pub returns-in_err-ending-clause-finds : goal.returns-in_err-ending-clause-finds
 returns-in_err-ending-clause-finds c =
     let p = err_from_is_err_and c.from_residual.result c.from_residual.ensures.1 in
-    let place : c.cursor_at-cursor.result ≡ behind c.args.self.now.at c.args.bytes.now.items = c.cursor_at-cursor.ensures.place ∙ ap (behind c.args.self.now.at) c.deref.ensures.value in
+    let place : c.cursor_at-cursor.result ≡ place_past c.args.self.now.at c.args.bytes.now.items = c.cursor_at-cursor.ensures.place ∙ ap (place_past c.args.self.now.at) c.deref.ensures.value in
     rw (p.1, p.2) (ending_stops c.args.bytes.now.items c.args.self.now c.in-Some.front c.in_err-ending.field-0.0 c.in-Some.is c.requires.left c.requires.holds
     (subst (λ (q : Place). StopsAt c.in_err-ending.field-0.0 (ending c.in-Some.front.suite c.args.self.now.settings.max_unit q)) place c.in_err-ending.ensures))
 
@@ -41,9 +41,9 @@ begins : (c : goal.After-replace) → (left : List ℕ) × BeginsWith c.args.sel
 begins c =
     let is = sym c.take.ensures.value ∙ c.in-Some-take.is in
     let same : c.in-Some.front ≡ c.in-Some-take.front = some_same c.in-Some.front c.in-Some-take.front (sym c.in-Some.is ∙ is) in
-    let place : c.cursor_at-cursor.result ≡ behind c.args.self.now.at c.args.bytes.now.items = c.cursor_at-cursor.ensures.place ∙ ap (behind c.args.self.now.at) c.deref.ensures.value in
+    let place : c.cursor_at-cursor.result ≡ place_past c.args.self.now.at c.args.bytes.now.items = c.cursor_at-cursor.ensures.place ∙ ap (place_past c.args.self.now.at) c.deref.ensures.value in
     let r = ending_read c.args.bytes.now.items c.args.self.now c.in-Some-take.front (ending_fields c.in_ok-ending.ending) c.ending_of.new.cursor is c.requires.left c.requires.holds
-    (ap (λ (f : Front). ending f.suite c.args.self.now.settings.max_unit (behind c.args.self.now.at c.args.bytes.now.items)) (sym same) ∙ ap (ending c.in-Some.front.suite c.args.self.now.settings.max_unit) (sym place) ∙ c.in_ok-ending.ensures) in
+    (ap (λ (f : Front). ending f.suite c.args.self.now.settings.max_unit (place_past c.args.self.now.at c.args.bytes.now.items)) (sym same) ∙ ap (ending c.in-Some.front.suite c.args.self.now.settings.max_unit) (sym place) ∙ c.in_ok-ending.ensures) in
     found_whole c.args.bytes.now.items c.args.self.now c.in-Some-take.front (ending_fields c.in_ok-ending.ending) c.ending_of.new.cursor c.offset-end.result _ _ _ _ r c.offset-end.ensures
     (ap (λ v. v.items) c.replace.ensures.value) refl (c.truncate.ensures.items ∙ ap (λ v. take c.in_ok-ending.ending.size v.items) c.replace-text.ensures.value) refl
 

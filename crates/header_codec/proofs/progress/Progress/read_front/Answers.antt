@@ -4,7 +4,7 @@ use Rattle.esdk_fields.specs.Place.{Place}
 use Rattle.esdk_fields.specs.Gives.{StopsAt}
 use Rattle.header_codec.specs.Header.{Opening}
 use Rattle.header_codec.specs.Parts.{raw_opening}
-use Rattle.header_codec.specs.Progress.{opening_of}
+use Rattle.header_codec.specs.Progress.{front_opening}
 use Rattle.header_codec.specs.Table.{opening}
 use Rattle.header_codec.proofs.Sessions.{none_found}
 use Rattle.header_codec.proofs.Progressing.{opening_stops, context_stops, front_read, first_within}
@@ -30,7 +30,7 @@ returns-in_err-field-clause-stops c =
 pub returns-clause-holds : goal.returns-clause-holds
 returns-clause-holds c =
     let none = none_found c.args.self.now.front c.if-is_some.ensures in
-    let same : opening_of (record { suite = c.in_ok-opening.opening.suite; id = c.in_ok-from_slice.field-0; stored = c.in_ok-field.field.stored }) ≡ raw_opening c.in_ok-opening.opening =
+    let same : front_opening (record { suite = c.in_ok-opening.opening.suite; id = c.in_ok-from_slice.field-0; stored = c.in_ok-field.field.stored }) ≡ raw_opening c.in_ok-opening.opening =
     ap (λ (id : List ℕ). opening_with (record { suite = c.in_ok-opening.opening.suite; id = id })) c.in_ok-from_slice.ensures.items in
     front_read c.args.bytes.now c.args.self.now _ _ (raw_opening c.in_ok-opening.opening) c.opening_of.new.cursor c.context_field_of.new.cursor c.in_ok-field.field.bytes.now none c.requires
     (ap (opening c.args.self.now.settings.uncommitted) (sym c.cursor_at-cursor.ensures.place) ∙ c.in_ok-opening.ensures.reads) c.in_ok-field.ensures.reads c.in_ok-field.ensures.spells

@@ -3,7 +3,7 @@ use Rattle.std.proofs.Common.{rules, ◌≡◌, ◌+◌, ◌-◌, drop, sym, ap,
 use Rattle.std.specs.Prelude.{◌||◌, option_map}
 use Rattle.serde_json.specs.declared.value.Value.{Value}
 use Rattle.serde_json.specs.View.{view, items_view}
-use Rattle.keyring_file.specs.Found.{met, Gives, form_value}
+use Rattle.keyring_file.specs.Found.{met, WalkGives, form_value}
 use Rattle.keyring_file.specs.Migrate.{migrated, migrated_form, migrated_row}
 use Rattle.keyring_file.proofs.Rewritten.{behind_made, made_bottom, made_done, made_fails, made_formed, made_more, made_unshaped}
 use Rattle.keyring_file.proofs.Rows.{stops}
@@ -24,8 +24,8 @@ migrated-returns g t c =
     let below = migrated c.args.plan.retire c.args.plan.version (c.args.levels - 1) in
     let whole = made_formed c.args.plan.retire c.args.plan.version c.args.levels (view c.args.node.now) (met c.args.self.now) (form_value c.in-Some.form) (sym c.in-Some.ensures)
     c.if-levels-eq0.false in
-    subst (λ reading. Gives (λ (made : Value × Bool). (view made.0, made.1)) c.migrated_form.result c.migrated_form.new.self reading) (sym whole)
-    (subst (λ listed. Gives (λ (made : Value × Bool). (view made.0, made.1)) c.migrated_form.result c.migrated_form.new.self
+    subst (λ reading. WalkGives (λ (made : Value × Bool). (view made.0, made.1)) c.migrated_form.result c.migrated_form.new.self reading) (sym whole)
+    (subst (λ listed. WalkGives (λ (made : Value × Bool). (view made.0, made.1)) c.migrated_form.result c.migrated_form.new.self
     (migrated_form c.args.plan.retire below (c.args.self.now.nodes + 1) listed (form_value c.in-Some.form) (with_node (met c.args.self.now))))
     c.lists_children-listed.ensures c.migrated_form.ensures)
 

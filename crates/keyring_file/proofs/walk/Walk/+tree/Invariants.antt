@@ -3,7 +3,7 @@ use Rattle.std.proofs.Common.{◌≡◌, ◌+◌, ◌*◌, drop}
 use Rattle.serde_json.specs.View.{items_view}
 use Rattle.multi_keyring.specs.Nodes.{forest}
 use Rattle.keyring_file.specs.Found.{met, wraps_of}
-use Rattle.keyring_file.specs.Room.{HasRoom}
+use Rattle.keyring_file.specs.Room.{LevelsHaveRoom}
 use Rattle.keyring_file.specs.Tree.{row, tree}
 use Rattle.keyring_file.proofs.Rows.{behind_these}
 use Rattle.keyring_file.proofs.walk.Walk.+tree.Given as goal
@@ -27,7 +27,7 @@ decreases-row g l = 4 * l.levels + 1
 abbrev pub invariant-row-loop-node : goal.invariant-row-loop-node
 invariant-row-loop-node g l =
     record {
-      room : HasRoom l.levels (met l.self);
+      room : LevelsHaveRoom l.levels (met l.self);
       whole : row (tree (wraps_of g.P.Keyring.meaning) l.version l.levels) (items_view l.nodes) (met l.fn.self)
           ≡ behind_these (forest l.trees.items) (row (tree (wraps_of g.P.Keyring.meaning) l.version l.levels) (items_view (drop l.node-index l.nodes)) (met l.self));
     }

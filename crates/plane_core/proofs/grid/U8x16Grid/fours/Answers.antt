@@ -1,12 +1,12 @@
 use Rattle.std.proofs.Common.{◌+◌, ◌-◌, cond}
-use Rattle.plane_core.specs.Grid.{row}
+use Rattle.plane_core.specs.Grid.{bit_row}
 use Rattle.plane_core.proofs.Rows.{same_row}
 use Rattle.plane_core.proofs.Wires.{is_even}
 use Rattle.plane_core.proofs.Lanes.{lane_cell, lane_evens, lane_odds}
 use Rattle.plane_core.proofs.grid.U8x16Grid.fours.Goals as goal
 
 pub returns-clause-low : goal.returns-clause-low
-unfolding row
+unfolding bit_row
 returns-clause-low c k =
     let a = c.args.self in
     let b = c.args.other in
@@ -14,7 +14,7 @@ returns-clause-low c k =
     (λ i h. lane_evens 16 4 0x0f tt tt a b c.fits-self.0 c.fits-other.0 c.fits-self.1 c.fits-other.1 k i h)
 
 pub returns-clause-high : goal.returns-clause-high
-unfolding row
+unfolding bit_row
 returns-clause-high c k =
     let a = c.args.self in
     let b = c.args.other in

@@ -1,7 +1,7 @@
 use Rattle.std.proofs.Common.{inl, inr, refl}
 use Rattle.std.proofs.lemmas.Result.{err_from_is_err_and}
 use Rattle.keyring_trait.specs.Saying.{Saying, said_last}
-use Rattle.reseal_core.specs.NewMessage.{AreGiven}
+use Rattle.reseal_core.specs.NewMessage.{MaterialsAreGiven}
 use Rattle.reseal_core.proofs.NewMessages.{begins, header_fails, not_given, not_started}
 use Rattle.reseal_core.proofs.new_message.NewMessage.begin.Goals as goal
 
@@ -27,7 +27,7 @@ returns-in_err-sealer-clause-begins g c = λ size random text written.
 pub returns-in_default-clause-begins : goal.returns-in_default-clause-begins
 returns-in_default-clause-begins g c = λ size random text written.
     let saying : Saying = said_last (g.B.Manager.state c.args.sealing.now) (g.B.Manager.state c.materials_for.new.sealing) in
-    let given : AreGiven saying c.args.now c.args.self.now.random c.args.whole.now c.args.only.now c.in_ok-materials.materials =
+    let given : MaterialsAreGiven saying c.args.now c.args.self.now.random c.args.whole.now c.args.only.now c.in_ok-materials.materials =
     record { given = rw c.bytes.ensures at c.in_ok-materials.ensures.gives; sound = c.in_ok-sealer.ensures.sound; begins = c.in_ok-sealer.ensures.taken } in
     inl (
       refl,
@@ -38,7 +38,7 @@ returns-in_default-clause-begins g c = λ size random text written.
 pub returns-clause-begins : goal.returns-clause-begins
 returns-clause-begins g c = λ size random text written.
     let saying : Saying = said_last (g.B.Manager.state c.args.sealing.now) (g.B.Manager.state c.materials_for.new.sealing) in
-    let given : AreGiven saying c.args.now c.args.self.now.random c.args.whole.now c.args.only.now c.in_ok-materials.materials =
+    let given : MaterialsAreGiven saying c.args.now c.args.self.now.random c.args.whole.now c.args.only.now c.in_ok-materials.materials =
     record { given = rw c.bytes.ensures at c.in_ok-materials.ensures.gives; sound = c.in_ok-sealer.ensures.sound; begins = c.in_ok-sealer.ensures.taken } in
     begins saying c.args.now c.args.whole.now c.args.only.now c.args.self.now size random text c.in_ok-materials.materials written given c.header.result.now (c.header.ensures _ c.in_ok-sealer.ensures.stands)
     (g.O.Sink.state c.args.output.now) (g.O.Sink.state c.put.new.self) c.in_ok-sealer.sealer c.in_ok-sealer.ensures.stands c.in-Ok.ensures.bytes c.in-Ok.ensures.cause.same

@@ -1,7 +1,7 @@
 use Rattle.std.proofs.Common.{◌≡◌, ◌∙◌, Bool, is_some, Ok, refl, sym, subst}
 use Rattle.std.proofs.lemmas.Result.{err_from_is_err_and}
 use Rattle.stream_open.specs.declared.session.Opener.{Opener}
-use Rattle.stream_open.specs.Session.{OpeningValue, stepped}
+use Rattle.stream_open.specs.Session.{OpeningValue, opening_stepped}
 use Rattle.stream_open.specs.Stands.{Stands as Opens}
 use Rattle.reseal_core.specs.Session.{text_so_far}
 use Rattle.reseal_core.specs.Stands.{BearsMade}
@@ -19,7 +19,7 @@ begin-requires-clause-opener g c =
     let v = c.requires.session.session in
     let stands = c.requires.session.stands in
     let s = c.in-Ok.ensures.steps v.opening stands.opener in (
-      stepped v.opening c.args.piece.now s.heard (Ok c.in-Ok.used),
+      opening_stepped v.opening c.args.piece.now s.heard (Ok c.in-Ok.used),
       s.stands,
       held (g.A.Manager.state c.args.opening.now) (g.A.Manager.state c.step.new.manager) c.args.now c.args.self.now v c.args.piece.now c.step.new.self stands (sym stands.stopped ∙ c.if-self.false) c.in-Ok.used s,
     )
@@ -31,7 +31,7 @@ returns-in_err-begin-clause-steps g c = λ v stands going.
     rw (p.1, p.2) (
     begins_not (g.A.Manager.state c.args.opening.now) (g.A.Manager.state c.step.new.manager) c.args.now c.args.self.now v c.args.piece.now c.step.new.self stands going c.in-Ok.used s
     _ _ _ (c.begin.new.sealing ≡ c.args.sealing.now) _ c.in_err-begin.field-0.0
-    (c.in_err-begin.ensures.cause (stepped v.opening c.args.piece.now s.heard (Ok c.in-Ok.used)) v.size v.random (text_so_far v) v.materials s.stands (stands.going going).written)
+    (c.in_err-begin.ensures.cause (opening_stepped v.opening c.args.piece.now s.heard (Ok c.in-Ok.used)) v.size v.random (text_so_far v) v.materials s.stands (stands.going going).written)
     c.begin.new.self c.begin.ensures.opener c.begin.ensures.stopped
     )
 
@@ -39,7 +39,7 @@ pub returns-in_err-pass-clause-steps : goal.returns-in_err-pass-clause-steps
 returns-in_err-pass-clause-steps g c = λ v stands going.
     let s = c.in-Ok.ensures.steps v.opening stands.opener in
     let p = err_from_is_err_and c.from_residual-in_err-pass.result c.from_residual-in_err-pass.ensures.1 in
-    let w : OpeningValue = stepped v.opening c.args.piece.now s.heard (Ok c.in-Ok.used) in
+    let w : OpeningValue = opening_stepped v.opening c.args.piece.now s.heard (Ok c.in-Ok.used) in
     let b = c.in_ok-begin.ensures.begun w v.size v.random (text_so_far v) v.materials s.stands (stands.going going).written in
     let out : c.out.result.now ≡ w.out = c.out.ensures w (subst (λ (o : Opener). Opens o w) (sym c.begin.ensures.opener) s.stands) in
     let none = nothing_yet (g.A.Manager.state c.args.opening.now) (g.A.Manager.state c.step.new.manager) c.args.now c.args.self.now v c.args.piece.now c.step.new.self stands going c.in-Ok.used s
@@ -53,7 +53,7 @@ returns-in_err-pass-clause-steps g c = λ v stands going.
 pub returns-clause-steps : goal.returns-clause-steps
 returns-clause-steps g c = λ v stands going.
     let s = c.in-Ok.ensures.steps v.opening stands.opener in
-    let w : OpeningValue = stepped v.opening c.args.piece.now s.heard (Ok c.in-Ok.used) in
+    let w : OpeningValue = opening_stepped v.opening c.args.piece.now s.heard (Ok c.in-Ok.used) in
     let b = c.in_ok-begin.ensures.begun w v.size v.random (text_so_far v) v.materials s.stands (stands.going going).written in
     let out : c.out.result.now ≡ w.out = c.out.ensures w (subst (λ (o : Opener). Opens o w) (sym c.begin.ensures.opener) s.stands) in
     let none = nothing_yet (g.A.Manager.state c.args.opening.now) (g.A.Manager.state c.step.new.manager) c.args.now c.args.self.now v c.args.piece.now c.step.new.self stands going c.in-Ok.used s

@@ -2,7 +2,7 @@ use Rattle.std.proofs.Common.{◌≡◌, ℕ, List, [], Ok, take, sym, subst, �
 use Rattle.std.proofs.lemmas.List.{take_all}
 use Rattle.keyring_trait.proofs.Going.{went_on}
 use Rattle.stream_open.specs.Receiving.{FedWhole}
-use Rattle.stream_open.specs.Session.{stepped}
+use Rattle.stream_open.specs.Session.{opening_stepped}
 use Rattle.stream_open.proofs.GoingOn.{stands_goes}
 use Rattle.stream_open.proofs.PieceEnds.{left_behind, left_few, ends_at, left_some, stays_stopped, step_fed, until_on, used_behind, whole_none, whole_on}
 use Rattle.stream_open.proofs.session.Opener.feed.Goals as goal
@@ -62,7 +62,7 @@ loop-fed-preserved g c =
           let s = c.in-Ok.ensures.steps u.fed.session u.fed.stands in
           whole_on g.M.Manager.state g.R.Receiver.takes g.R.Receiver.fails c.args.now v piece fed c.args.manager.now c.loop-fed.manager c.step.new.manager c.args.output.now c.loop-fed.output c.hand_out.new.output
           c.loop-fed.self c.step.new.self _ within (left_behind piece fed) u c.in-Ok.used s (c.step.ensures.unasked u.fed.session u.fed.stands) (left_some piece fed (omega arith)) c.out.result.now
-          (c.out.ensures (stepped u.fed.session _ s.heard (Ok c.in-Ok.used)) s.stands) (used_behind piece fed c.in-Ok.used) (rw c.in_default.is at c.hand_out.ensures)
+          (c.out.ensures (opening_stepped u.fed.session _ s.heard (Ok c.in-Ok.used)) s.stands) (used_behind piece fed c.in-Ok.used) (rw c.in_default.is at c.hand_out.ensures)
           (λ r s t xs ys one two. g.met.R.Receiver.takes_more r s t xs ys one two));
     }
 
@@ -90,7 +90,7 @@ returns-in-Err-hand_out-clause-fed g c = λ v stands.
     let is = step_fed g.M.Manager.state c.args.now v (take fed piece) u.given c.args.manager.now c.loop-fed.manager c.step.new.manager c.loop-fed.self c.step.new.self _ u.fed c.in-Ok.used s (left_some piece fed (omega arith)) in
     until_on g.M.Manager.state g.R.Receiver.takes g.R.Receiver.fails c.args.now v piece fed c.args.manager.now c.loop-fed.manager c.step.new.manager c.args.output.now c.loop-fed.output c.hand_out.new.output
     c.loop-fed.self c.step.new.self _ within (left_behind piece fed) u c.in-Ok.used s (c.step.ensures.unasked u.fed.session u.fed.stands) (left_some piece fed (omega arith)) c.out.result.now _
-    (c.out.ensures (stepped u.fed.session _ s.heard (Ok c.in-Ok.used)) s.stands) (used_behind piece fed c.in-Ok.used) (left_few piece fed c.in-Ok.used within is.within) (rw c.in-Err-hand_out.is at c.hand_out.ensures)
+    (c.out.ensures (opening_stepped u.fed.session _ s.heard (Ok c.in-Ok.used)) s.stands) (used_behind piece fed c.in-Ok.used) (left_few piece fed c.in-Ok.used within is.within) (rw c.in-Err-hand_out.is at c.hand_out.ensures)
     (λ r s t xs ys error one two. g.met.R.Receiver.fails_behind r s t xs ys error one two)
 
 pub returns-in-Err-hand_out-clause-session : goal.returns-in-Err-hand_out-clause-session

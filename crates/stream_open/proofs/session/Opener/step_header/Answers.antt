@@ -12,7 +12,7 @@ use Rattle.stream_open.specs.declared.session.Opener.{Opener}
 use Rattle.message_format.specs.declared.unlock_errors.UnlockError.{UnlockError}
 use Rattle.message_format.specs.Unlocking.{request_of, Answered, Unanswered}
 use Rattle.stream_open.specs.Errors.{locked_as}
-use Rattle.stream_open.specs.Stands.{Steps}
+use Rattle.stream_open.specs.Stands.{OpenerSteps}
 use Rattle.stream_open.proofs.Headers.{Shown, shown, was_asked, not_shown, used_within}
 use Rattle.stream_open.proofs.HeaderSteps.{locked_at, steps_unread, steps_waiting, steps_unanswered, steps_not_unlocked, steps_opened, steps_failed}
 use Rattle.stream_open.proofs.Locks.{begun_lock, kept_lock}
@@ -28,7 +28,7 @@ returns-in-Err-clause-steps g c = λ v stands.
     let piece : List ℕ = c.args.piece.now in
     let before : Session = record { settings = v.settings; taken = v.taken; stopped = false } in
     let next : Opener = record c.args.self.now { reader = c.step.new.self; stopped = true } in
-    subst (λ (error : OpenError). Steps old new moment v piece (Err error) next) (sym c.unread.ensures)
+    subst (λ (error : OpenError). OpenerSteps old new moment v piece (Err error) next) (sym c.unread.ensures)
     (steps_unread old new moment c.args.self.now next v piece c.in-Err.error (c.in-Err.ensures.answer before (lock.reads going)) stands going lock (λ lines h. h) refl refl refl refl c.requires.locked)
 
 pub returns-in_default-clause-steps : goal.returns-in_default-clause-steps
