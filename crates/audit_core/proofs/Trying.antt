@@ -57,7 +57,7 @@ one_more old now after h whole only count openers is_opener first tries =
       now_is = leaf.now_is ∙ (ap (λ (l : List KeyringMeaning). l ++ leaf.left ∷ leaf.behind) (sym seam.front) ∙ row_more (λ (x : LeafAnswer). x.after) answers a leaf.behind);
       count_is = omega (arith, first.count_is, length-append answers (a ∷ []));
       are = All-append (IsAnswer whole h.entries) answers (a ∷ []) first.are
-          (All-cons (IsAnswer whole h.entries) a [] (record { goes = leaf.goes; opens = leaf.opens }) (All-nil (IsAnswer whole h.entries)));
+          (All-cons (IsAnswer whole h.entries) a [] (record { goes = leaf.goes; opens = leaf.opens; used = leaf.used }) (All-nil (IsAnswer whole h.entries)));
       openers_are = opener_more is_opener (test a) (count + 1) openers tries.is
           ∙ (ap (λ (l : List ℕ). l ++ numbers_of test (count + 1) (a ∷ [])) first.openers_are
           ∙ sym (numbers_more test 1 (count + 1) answers a (omega (arith, first.count_is))));

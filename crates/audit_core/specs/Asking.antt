@@ -8,7 +8,8 @@ use Rattle.context_codec.specs.Parts.{only_given, whole_of}
 use Rattle.edk_codec.specs.Entry.{Entry}
 use Rattle.context_codec.specs.declared.joining.Joined.{Joined}
 use Rattle.header_codec.specs.Header.{HeaderValue}
-use Rattle.keyring_trait.specs.Keyring.{KeyringMeaning, KeyringGoes, Opens}
+use Rattle.keyring_trait.specs.Keyring.{KeyringMeaning, KeyringGoes, Opens, FindsBy}
+use Rattle.keyring_trait.specs.Uses.{AskedOnce}
 use Rattle.keyring_trait.specs.Unlocking.{pair_offence}
 use Rattle.multi_keyring.specs.LeafUnwrapping.{AnswersAt}
 use Rattle.audit_core.specs.declared.errors.AuditError.{AuditError}
@@ -21,10 +22,11 @@ pub record LeafAnswer : Type 0 where
   pub after : KeyringMeaning
   pub found : Option (List ℕ)
 
--- It answered as a keyring does that is asked for the data key of these entries.
+-- It answered as a keyring does that is asked once for the data key of these entries.
 pub record IsAnswer (c : List KeyValue) (entries : List Entry) (a : LeafAnswer) : Type 0 where
   pub goes : KeyringGoes a.before a.after
   pub opens : Opens a.before a.after c entries a.found
+  pub used : AskedOnce a.before.uses a.after.uses (FindsBy c entries (Ok a.found))
 
 -- Nothing is wrong with the pairs. Each leaf was asked, in order, and answered; the openers are
 -- those whose data key unlocks the header.

@@ -1,7 +1,8 @@
 //! A keyring of one's own.
 
 ghost use Rattle.std.specs.Prelude.{◌≡◌, ◌+◌, ◌-◌, ◌^◌, min, IfOk, IfErr};
-ghost use Rattle.keyring_trait.specs.Keyring.{KeyringGoes, Opens, UnwrapCause};
+ghost use Rattle.keyring_trait.specs.Keyring.{FindsBy, KeyringGoes, Opens, UnwrapCause};
+ghost use Rattle.keyring_trait.specs.Uses.{AskedOnce};
 
 use context_codec::Context;
 use edk_codec::DataKeyEntry;
@@ -65,6 +66,8 @@ impl<K: Keyring> Keyring for CountedRing<K> {
         ensures goes { KeyringGoes (K.meaning self.old.ring) (K.meaning self.new.ring) }
         ensures opens { IfOk result (Opens (K.meaning self.old.ring)
             (K.meaning self.new.ring) context.now entries.now) }
+        ensures used { AskedOnce (K.meaning self.old.ring).uses (K.meaning self.new.ring).uses
+            (FindsBy context.now entries.now result) }
         ensures cause { IfErr result (UnwrapCause (K.meaning self.old.ring).faults
             (K.meaning self.new.ring).faults) }
         ensures counted { self.new.asked ≡ min (self.old.asked + 1) (2 ^ 64 - 1) }

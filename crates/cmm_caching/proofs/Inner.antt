@@ -29,14 +29,14 @@ of_hit h given number P is = subst (λ (served : Served). NotHit served P) (sym 
 module _ (old new : ManagerNow) (request : EncRequestValue) (now : ℕ) (random : List ℕ) where
   -- what the inner manager gave
   pub seals_given : (given : GivenValue) (served : Served) (m : EncMaterialsValue) → Went old new → FitsSeal old.meaning.wraps (enc_name request) given
-      → GaveToSeal old request random given → WasGiven (new.gave request now random) given
+      → GaveToSeal old request random given → WasGiven (new.gave old.uses request now random) given
       → enc_handed m ≡ record { given = given; served = served } → SealsOver old new request now random (Ok m)
   seals_given given served m went fits got last is = record {
     went = went;
     cause = tt;
     fits = enc_handed_so (FitsSeal old.meaning.wraps (enc_name request)) m given served is fits;
     got = not_hit m.served (GaveToSeal old request random (enc_given m)) (enc_handed_so (GaveToSeal old request random) m given served is got);
-    last = not_hit m.served (WasGiven (new.gave request now random) (enc_given m)) (enc_handed_so (WasGiven (new.gave request now random)) m given served is last);
+    last = not_hit m.served (WasGiven (new.gave old.uses request now random) (enc_given m)) (enc_handed_so (WasGiven (new.gave old.uses request now random)) m given served is last);
   }
 
   -- what an entry gives
@@ -47,7 +47,7 @@ module _ (old new : ManagerNow) (request : EncRequestValue) (now : ℕ) (random 
     cause = tt;
     fits = enc_handed_so (FitsSeal old.meaning.wraps (enc_name request)) m given (Hit number) is fits;
     got = of_hit (enc_handed m) given number (GaveToSeal old request random (enc_given m)) is;
-    last = of_hit (enc_handed m) given number (WasGiven (new.gave request now random) (enc_given m)) is;
+    last = of_hit (enc_handed m) given number (WasGiven (new.gave old.uses request now random) (enc_given m)) is;
   }
 
   -- nothing
@@ -59,14 +59,14 @@ module _ (old new : ManagerNow) (request : EncRequestValue) (now : ℕ) (random 
 module _ (old new : ManagerNow) (request : DecRequestValue) (now : ℕ) where
   -- what the inner manager found
   pub opens_found : (given : GivenValue) (served : Served) (m : DecMaterialsValue) → Went old new → FitsUnseal (dec_name request) given
-      → GaveToOpen old new request given → WasFound (new.found request now) given
+      → GaveToOpen old new request given → WasFound (new.found old.uses request now) given
       → dec_handed m ≡ record { given = given; served = served } → OpensOver old new request now (Ok m)
   opens_found given served m went fits got last is = record {
     went = went;
     cause = tt;
     fits = dec_handed_so (FitsUnseal (dec_name request)) m given served is fits;
     got = not_hit m.served (GaveToOpen old new request (dec_given m)) (dec_handed_so (GaveToOpen old new request) m given served is got);
-    last = not_hit m.served (WasFound (new.found request now) (dec_given m)) (dec_handed_so (WasFound (new.found request now)) m given served is last);
+    last = not_hit m.served (WasFound (new.found old.uses request now) (dec_given m)) (dec_handed_so (WasFound (new.found old.uses request now)) m given served is last);
   }
 
   -- what an entry gives
@@ -77,7 +77,7 @@ module _ (old new : ManagerNow) (request : DecRequestValue) (now : ℕ) where
     cause = tt;
     fits = dec_handed_so (FitsUnseal (dec_name request)) m given (Hit number) is fits;
     got = of_hit (dec_handed m) given number (GaveToOpen old new request (dec_given m)) is;
-    last = of_hit (dec_handed m) given number (WasFound (new.found request now) (dec_given m)) is;
+    last = of_hit (dec_handed m) given number (WasFound (new.found old.uses request now) (dec_given m)) is;
   }
 
   -- nothing

@@ -15,3 +15,4 @@ pub mod Sealed
 pub mod Opened
 pub mod Making
 mod Rows
+pub mod Twice

@@ -76,6 +76,7 @@ caching_now cache inner = record {
   exact = CachingExact cache inner;
   bears = BearsWith cache;
   within = KeepsWithin (store_limits cache);
-  gave = λ request now random. CachingGave (inner.gave request now random);
-  found = λ request now. CachingFound (inner.found request now);
+  uses = inner.uses;
+  gave = λ before request now random. CachingGave (inner.gave before request now random);
+  found = λ before request now. CachingFound (inner.found before request now);
 }

@@ -18,7 +18,7 @@ pub record SealsOver (old new : ManagerNow) (request : EncRequestValue) (now : �
   pub cause : IfErr result (GivesNone old new request)
   pub fits : IfOk result (λ m. FitsSeal old.meaning.wraps (enc_name request) (enc_given m))
   pub got : IfOk result (λ m. NotHit m.served (GaveToSeal old request random (enc_given m)))
-  pub last : IfOk result (CachingGave (new.gave request now random))
+  pub last : IfOk result (CachingGave (new.gave old.uses request now random))
 
 -- A request to decrypt: the same of what it found.
 pub record OpensOver (old new : ManagerNow) (request : DecRequestValue) (now : ℕ)
@@ -27,4 +27,4 @@ pub record OpensOver (old new : ManagerNow) (request : DecRequestValue) (now : �
   pub cause : IfErr result (FindsNone old new request)
   pub fits : IfOk result (λ m. FitsUnseal (dec_name request) (dec_given m))
   pub got : IfOk result (λ m. NotHit m.served (GaveToOpen old new request (dec_given m)))
-  pub last : IfOk result (CachingFound (new.found request now))
+  pub last : IfOk result (CachingFound (new.found old.uses request now))

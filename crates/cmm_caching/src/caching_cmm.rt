@@ -136,8 +136,8 @@ impl<M: Manager> Manager for CachingCmm<M> {
         ensures bears { BearsOn (caching_now self.old.1 (M.state self.old.0))
             (caching_now self.new.1 (M.state self.new.0)) Seal now request.now.declared
             enc_served result }
-        ensures gave { IfOk result (CachingGave ((M.state self.new.0).gave request.now now
-            random.now)) }
+        ensures gave { IfOk result (CachingGave ((M.state self.new.0).gave
+            (M.state self.old.0).uses request.now now random.now)) }
         ensures answers { (s : CacheState) → StoreStandsFor (M.state self.old.0).meaning.wraps
             self.old.1 s
             → AnswersAs enc_handed (store_limits self.old.1) s (enc_wish request.now) now result }
@@ -179,7 +179,8 @@ impl<M: Manager> Manager for CachingCmm<M> {
             (caching_now self.new.1 (M.state self.new.0)) request.now) }
         ensures bears { BearsOn (caching_now self.old.1 (M.state self.old.0))
             (caching_now self.new.1 (M.state self.new.0)) Unseal now None dec_served result }
-        ensures found { IfOk result (CachingFound ((M.state self.new.0).found request.now now)) }
+        ensures found { IfOk result (CachingFound ((M.state self.new.0).found
+            (M.state self.old.0).uses request.now now)) }
         ensures answers { (s : CacheState) → StoreStandsFor (M.state self.old.0).meaning.wraps
             self.old.1 s
             → AnswersAs dec_handed (store_limits self.old.1) s (dec_wish request.now) now result }

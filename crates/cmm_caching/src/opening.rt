@@ -28,7 +28,8 @@ fn ask_to_open<M: Manager>(
     ensures cause { IfErr result (FindsNone (M.state inner.old) (M.state inner.new) request.now) }
     ensures fits { IfOk result (FitsUnseal (dec_name request.now)) }
     ensures got { IfOk result (GaveToOpen (M.state inner.old) (M.state inner.new) request.now) }
-    ensures last { IfOk result (WasFound ((M.state inner.new).found request.now now)) }
+    ensures last { IfOk result (WasFound ((M.state inner.new).found (M.state inner.old).uses
+        request.now now)) }
 {
     let found = inner.for_decryption(alloc, request, now)?;
     Ok(Given::of_opening(alloc, found))

@@ -30,7 +30,8 @@ fn ask_to_seal<M: Manager>(
     ensures cause { IfErr result (GivesNone (M.state inner.old) (M.state inner.new) request.now) }
     ensures fits { IfOk result (FitsSeal (M.state inner.old).meaning.wraps (enc_name request.now)) }
     ensures got { IfOk result (GaveToSeal (M.state inner.old) request.now random.now) }
-    ensures last { IfOk result (WasGiven ((M.state inner.new).gave request.now now random.now)) }
+    ensures last { IfOk result (WasGiven ((M.state inner.new).gave (M.state inner.old).uses
+        request.now now random.now)) }
 {
     let made = inner.for_encryption(alloc, request, now, random)?;
     Ok(Given::of_sealing(alloc, made))

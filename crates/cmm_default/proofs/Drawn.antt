@@ -1,16 +1,17 @@
 -- Materials of a data key that was drawn for the request.
 use Rattle.std.proofs.Common.{◌≡◌, ℕ, ◌+◌, ◌*◌, ◌≤◌, zero, suc, true, List, length, take, drop, Option, Some, refl, sym, ap, subst, ◌∙◌, arith}
-use Rattle.std.specs.Prelude.{All, None, IfSome}
+use Rattle.std.specs.Prelude.{All, None, IfSome, Ok}
 use Rattle.std.proofs.lemmas.List.Elements.{All-nil, All-cons, All-weaker, All-contains_itself}
 use Rattle.std.proofs.lemmas.List.{length-take, length-drop}
 use Rattle.context_codec.specs.KeySet.{has}
 use Rattle.context_codec.proofs.KeySets.{has-from_Contains}
-use Rattle.keyring_trait.specs.Keyring.{KeyringMeaning, WrappedValue, Wraps}
+use Rattle.keyring_trait.specs.Keyring.{KeyringMeaning, WrappedValue, Wraps, WrapsBy}
 use Rattle.keyring_trait.specs.Manager.{GivesMaterials, request_refusal}
 use Rattle.keyring_trait.specs.Materials.{EncMaterialsValue}
 use Rattle.keyring_trait.specs.Requests.{EncRequestValue}
+use Rattle.keyring_trait.specs.Uses.{AskedOnce}
 use Rattle.keyring_trait.specs.Wrapping.{WrapKeyValue, active, made, ivs_of, AreIvs}
-use Rattle.cmm_default.specs.DefaultCmm.{default_meaning, default_now}
+use Rattle.cmm_default.specs.DefaultCmm.{default_gave, default_meaning, default_now}
 use Rattle.cmm_default.specs.Steps.{wrapped_materials}
 
 -- ---- initialization vectors
@@ -58,3 +59,10 @@ gives_drawn ring request random wrapped given long told unrefused wraps is =
   where
     made_of : (keys : List WrapKeyValue) → ring.keys ≡ Some keys → wrapped.entries ≡ made keys request.context wrapped.key (ivs_of ring.wraps (drop 32 random))
     made_of keys tells = at_told ring.keys keys (λ ks. wrapped.entries ≡ made ks request.context wrapped.key (ivs_of ring.wraps (drop 32 random))) tells wraps.told
+
+-- the keys that the keyring went by made them
+pub gave_by : (old new : KeyringMeaning) (request : EncRequestValue) (random : List ℕ) (wrapped : WrappedValue) (given : EncMaterialsValue) → new.wraps ≡ old.wraps
+    → AskedOnce old.uses new.uses (WrapsBy old.wraps request.context random None (Ok wrapped)) → given ≡ wrapped_materials request wrapped → default_gave new old.uses request random given
+gave_by old new request random wrapped given same once is =
+    subst (λ (m : EncMaterialsValue). default_gave new old.uses request random m) (sym is)
+    (subst (λ (n : ℕ). AskedOnce old.uses new.uses (WrapsBy n request.context random None (Ok wrapped))) (sym same) once)

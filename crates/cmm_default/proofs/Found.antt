@@ -1,6 +1,6 @@
 -- What the keyring finds under the whole context, as the default manager's answer.
 use Rattle.std.proofs.Common.{◌≡◌, ℕ, List, [], Option, Some, None, refl, sym, subst}
-use Rattle.std.specs.Prelude.{⊤, IfSome}
+use Rattle.std.specs.Prelude.{⊤, IfSome, Ok}
 use Rattle.esdk_fields.specs.Counts.{Stayed}
 use Rattle.esdk_fields.specs.declared.faults.Fault.{Fault}
 use Rattle.context_codec.specs.Context.{KeyValue}
@@ -8,12 +8,14 @@ use Rattle.context_codec.specs.Parts.{whole_of}
 use Rattle.edk_codec.specs.Entry.{Entry}
 use Rattle.keyring_trait.specs.declared.manager_errors.ManagerError.{ManagerError}
 use Rattle.keyring_trait.specs.declared.manager_errors.ManagerError.TheVariants as errors
-use Rattle.keyring_trait.specs.Keyring.{KeyringMeaning, OpensWith, Opens}
+use Rattle.keyring_trait.specs.Keyring.{KeyringMeaning, OpensWith, Opens, FindsBy}
+use Rattle.keyring_trait.specs.Uses.{AskedOnce}
+use Rattle.keyring_trait.specs.Materials.{DecMaterialsValue}
 use Rattle.keyring_trait.specs.Manager.{FaultStands, FindsNone, offence_told}
 use Rattle.keyring_trait.specs.Requests.{DecRequestValue}
 use Rattle.keyring_trait.specs.Unlocking.{pair_offence}
 use Rattle.keyring_trait.specs.Wrapping.{WrapKeyValue, unwrapped}
-use Rattle.cmm_default.specs.DefaultCmm.{default_now, default_tells}
+use Rattle.cmm_default.specs.DefaultCmm.{default_found, default_now, default_tells}
 use Rattle.cmm_default.specs.Steps.{OpensNot}
 
 -- what is found with the keys that are told
@@ -31,3 +33,10 @@ opens_not old new request whole (errors.Fault fault) whole_is taken cause =
 opens_not old new request whole (errors.Refusal refusal) whole_is taken cause = cause
 opens_not old new request whole errors.KeyringFault whole_is taken cause = (cause, λ _. taken)
 opens_not old new request whole errors.Memory whole_is taken cause = tt
+
+-- The key is the one that the keys open that the keyring went by.
+pub found_by : (old new : KeyringMeaning) (request : DecRequestValue) (whole : List KeyValue) (key : List ℕ) (found : DecMaterialsValue) → whole ≡ whole_of request.stored request.given → found.key ≡ key
+    → AskedOnce old.uses new.uses (FindsBy whole request.entries (Ok (Some key))) → default_found new old.uses request found
+found_by old new request whole key found whole_is key_is once =
+    subst (λ (k : List ℕ). AskedOnce old.uses new.uses (FindsBy (whole_of request.stored request.given) request.entries (Ok (Some k)))) (sym key_is)
+    (subst (λ (w : List KeyValue). AskedOnce old.uses new.uses (FindsBy w request.entries (Ok (Some key)))) whole_is once)

@@ -4,3 +4,4 @@ pub mod Drawn
 pub mod Faults
 pub mod Found
 pub mod Going
+pub mod Twice

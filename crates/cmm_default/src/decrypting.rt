@@ -1,8 +1,9 @@
 //! The steps of a request to decrypt.
 
-ghost use Rattle.std.specs.Prelude.{◌≡◌, [], None, Some, IfOk, IfErr, OnOk};
+ghost use Rattle.std.specs.Prelude.{◌≡◌, [], None, Some, Ok, IfOk, IfErr, OnOk};
 ghost use Rattle.context_codec.specs.Parts.{only_given, whole_of};
-ghost use Rattle.keyring_trait.specs.Keyring.{KeyringGoes, Opens};
+ghost use Rattle.keyring_trait.specs.Keyring.{FindsBy, KeyringGoes, Opens};
+ghost use Rattle.keyring_trait.specs.Uses.{AskedOnce};
 ghost use Rattle.keyring_trait.specs.Unlocking.{pair_offence};
 ghost use Rattle.cmm_default.specs.Steps.{JoinsNot, OpensNot};
 
@@ -50,6 +51,8 @@ pub(crate) fn found_key<K: Keyring>(
     ensures goes { KeyringGoes (K.meaning ring.old) (K.meaning ring.new) }
     ensures opens { IfOk result (λ key. Opens (K.meaning ring.old)
         (K.meaning ring.new) whole.now entries.now (Some key)) }
+    ensures used { IfOk result (λ key. AskedOnce (K.meaning ring.old).uses
+        (K.meaning ring.new).uses (FindsBy whole.now entries.now (Ok (Some key)))) }
     ensures cause { IfErr result (OpensNot (K.meaning ring.old)
         (K.meaning ring.new) whole.now entries.now) }
 {

@@ -81,7 +81,7 @@ impl<K: Keyring> Manager for DefaultCmm<K> {
     /// M11 `ReservedKey` exactly where `aws-crypto-public-key` is stored; else M12 or M14, exactly
     /// as `join` answers them; else M15 `NoKeyOpens`, only where no told key opens an entry;
     /// `KeyringFault` where the keyring failed, `Memory` where memory runs out.
-    #[tactic(auto, using(crate::proofs::Faults::joins_not, crate::proofs::Found::opens_not, crate::proofs::Going::went_default, crate::proofs::Going::went_unasked))]
+    #[tactic(auto, using(crate::proofs::Faults::joins_not, crate::proofs::Found::opens_not, crate::proofs::Found::found_by, crate::proofs::Going::went_default, crate::proofs::Going::went_unasked))]
     fn for_decryption(
         &mut self,
         alloc: Global,

@@ -1,8 +1,9 @@
 //! The steps of a request to encrypt.
 
-ghost use Rattle.std.specs.Prelude.{◌≡◌, ◌≤◌, ◌+◌, ◌*◌, None, find, length, option_map, IfOk};
+ghost use Rattle.std.specs.Prelude.{◌≡◌, ◌≤◌, ◌+◌, ◌*◌, None, Ok, find, length, option_map, IfOk};
 ghost use Rattle.std.specs.Prelude.{IfErr};
-ghost use Rattle.keyring_trait.specs.Keyring.{KeyringGoes, Wraps};
+ghost use Rattle.keyring_trait.specs.Keyring.{KeyringGoes, Wraps, WrapsBy};
+ghost use Rattle.keyring_trait.specs.Uses.{AskedOnce};
 ghost use Rattle.keyring_trait.specs.Manager.{has_reserved_prefix, refusal_named, request_refusal};
 ghost use Rattle.cmm_default.specs.DefaultCmm.{default_meaning};
 ghost use Rattle.cmm_default.specs.Steps.{wrapped_materials, WrapsNot};
@@ -74,6 +75,9 @@ pub(crate) fn wrap_drawn<K: Keyring>(
     requires unrefused { (K.meaning ring.old).refuses_none ≡ None }
     ensures goes { KeyringGoes (K.meaning ring.old) (K.meaning ring.new) }
     ensures wraps { IfOk result (Wraps (K.meaning ring.old) context.now random.now None) }
+    ensures used { IfOk result (λ wrapped. AskedOnce (K.meaning ring.old).uses
+        (K.meaning ring.new).uses (WrapsBy (K.meaning ring.old).wraps context.now random.now None
+        (Ok wrapped))) }
     ensures cause { IfErr result (WrapsNot (K.meaning ring.old) (K.meaning ring.new)) }
 {
     match ring.on_encrypt(alloc, context, random, None) {

@@ -22,7 +22,7 @@ abbrev pub required_now : List (List ℕ) → ManagerNow → ManagerNow
 required_now keys inner = record inner {
   meaning = required_meaning keys inner.meaning;
   exact = inner.exact × (inner.meaning.demands ≡ []);
-  gave = λ request. inner.gave (requiring keys request);
+  gave = λ before request. inner.gave before (requiring keys request);
 }
 
 -- the answer is this error, or that memory ran out

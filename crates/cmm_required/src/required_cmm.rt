@@ -88,7 +88,7 @@ impl<M: Manager> Manager for RequiredCmm<M> {
         ensures bears { BearsOn (required_now self.old.1 (M.state self.old.0))
             (required_now self.new.1 (M.state self.new.0)) Seal now request.now.declared
             enc_served result }
-        ensures gave { IfOk result ((M.state self.new.0).gave
+        ensures gave { IfOk result ((M.state self.new.0).gave (M.state self.old.0).uses
             (requiring self.new.1 request.now) now random.now) }
 
         // Its own keys, over any inner manager.
@@ -123,7 +123,8 @@ impl<M: Manager> Manager for RequiredCmm<M> {
             (required_now self.new.1 (M.state self.new.0)) request.now) }
         ensures bears { BearsOn (required_now self.old.1 (M.state self.old.0))
             (required_now self.new.1 (M.state self.new.0)) Unseal now None dec_served result }
-        ensures found { IfOk result ((M.state self.new.0).found request.now now) }
+        ensures found { IfOk result ((M.state self.new.0).found (M.state self.old.0).uses
+            request.now now) }
 
         // Its own keys, over any inner manager.
         ensures keys { self.new.1 ≡ self.old.1 }

@@ -12,10 +12,10 @@ use Rattle.whole_input.specs.FileReads.{ReadsWholeFile}
 use Rattle.keydir_keyring.specs.Reading.{Gave, HasNoKey, IsKeyFront, IsNoKey, ReadsFewer, ReadsKeyFront, ReadsKey, key_of_file, told_key}
 
 -- bytes that are a key, and bytes that are none
-key_in_is : (bytes : List ℕ) → length bytes ≡ 32 → key_of_file bytes ≡ Some bytes
+pub key_in_is : (bytes : List ℕ) → length bytes ≡ 32 → key_of_file bytes ≡ Some bytes
 key_in_is bytes long = ap (λ (b : Bool). if b then Some bytes else None) (eq-eqb (length bytes) 32 long)
 
-key_in_none : (bytes : List ℕ) → length bytes ≢ 32 → key_of_file bytes ≡ None
+pub key_in_none : (bytes : List ℕ) → length bytes ≢ 32 → key_of_file bytes ≡ None
 key_in_none bytes other = elim (eqb_tells (length bytes) 32) [ inl same ↦ absurd (other same.1) | inr differs ↦ ap (λ (b : Bool). if b then Some bytes else None) differs.0 ]
 
 -- 32 bytes with room behind them are the file

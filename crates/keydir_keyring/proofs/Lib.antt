@@ -2,3 +2,4 @@ pub mod Answering
 pub mod Fronts
 pub mod Keys
 pub mod Rows
+pub mod KeysRead

@@ -1,5 +1,6 @@
 -- What a call of the keyring answers, when it fails, and what it leaves.
-use Rattle.std.specs.Prelude.{◌≡◌, ℕ, ◌+◌, ◌≤◌, List, [], ◌∷◌, Option, Result, MatchResult}
+use Rattle.std.specs.Prelude.{◌≡◌, ℕ, ◌+◌, ◌≤◌, List, [], ◌∷◌, ⊤, Option, Result, Ok, Err}
+use Rattle.std.specs.Prelude.{MatchResult}
 use Rattle.esdk_fields.specs.Counts.{counted}
 use Rattle.context_codec.specs.Context.{KeyValue}
 use Rattle.edk_codec.specs.Entry.{Entry}
@@ -69,3 +70,12 @@ WrapsAsRaw k c random handed key wrapped =
 abbrev pub FindsAsRaw : {S : Type 0} → KeydirValue S → List KeyValue → List Entry → List ℕ
     → Option (List ℕ) → Type 0
 FindsAsRaw k c entries key found = found ≡ unwrapped (keydir_key k key ∷ []) entries c
+
+-- ---- the key that a call goes by
+
+-- A call that read a key went by it alone, and one that couldn't read it by none.
+abbrev pub KeyIsReadBy : Result WrapKeyValue RingError → List WrapKeyValue → Type 0
+KeyIsReadBy (Ok keyring) keys = keys ≡ keyring ∷ []
+KeyIsReadBy (Err (Refused r)) keys = ⊤
+KeyIsReadBy (Err KeyringFault) keys = keys ≡ []
+KeyIsReadBy (Err Memory) keys = ⊤

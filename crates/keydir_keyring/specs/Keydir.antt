@@ -1,13 +1,15 @@
 -- A keyring of one wrapping key, whose bytes stand in a file of a shelf.
 -- AWS Encryption SDK Specification, "Raw AES Keyring".
-use Rattle.std.specs.Prelude.{◌≡◌, ◌≢◌, ℕ, List, [], ◌∷◌, false, None, Result, Ok, Err}
+use Rattle.std.specs.Prelude.{◌≡◌, ◌≢◌, ℕ, List, [], ◌∷◌, map, false, Some, None, Result, Ok, Err}
 use Rattle.std.specs.Option.{option_map}
 use Rattle.esdk_base.specs.Streams.{ShelfState}
 use Rattle.keyring_trait.specs.Wrapping.{WrapKeyValue}
 use Rattle.keyring_trait.specs.Keyring.{KeyringMeaning}
+use Rattle.keyring_trait.specs.Uses.{ReadAnew}
 use Rattle.raw_aes_keyring.specs.declared.raw_aes.RawError.{RawError}
 use Rattle.raw_aes_keyring.specs.declared.raw_aes.RawError.TheVariants.{ReservedNamespace, Memory}
 use Rattle.raw_aes_keyring.specs.RawKey.{reserved_namespace}
+use Rattle.keydir_keyring.specs.KeysRead.{keys_read}
 use Rattle.keydir_keyring.specs.Reading.{told_key}
 
 -- The shelf, the file's name on it, the namespace and the name of the wrapping key, and how often
@@ -31,7 +33,8 @@ abbrev pub keydir_key : {S : Type 0} → KeydirValue S → List ℕ → WrapKeyV
 keydir_key k bytes = record { namespace = k.namespace; name = k.name; key = bytes; retired = false }
 
 -- It tells its one wrapping key where its shelf tells a file of 32 bytes; it makes one entry,
--- refuses nothing, and counts its own failures.
+-- refuses nothing, and counts its own failures. It shows that its key is read anew in each call,
+-- and which keys the calls of its shelf read so far, whether the shelf tells its files or not.
 abbrev pub keydir_meaning : {S : Type 0} → (S → ShelfState) → KeydirValue S → KeyringMeaning
 keydir_meaning state k = record {
   keys = option_map (λ bytes. keydir_key k bytes ∷ []) (told_key (state k.shelf).files k.file);
@@ -40,4 +43,5 @@ keydir_meaning state k = record {
   refuses_none = None;
   faults = k.faults;
   steady = false;
+  uses = Some (ReadAnew (map (keydir_key k) (keys_read k.file [] (state k.shelf).calls)) ∷ []);
 }

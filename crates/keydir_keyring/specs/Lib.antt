@@ -1,3 +1,4 @@
 pub mod Answers
 pub mod Keydir
 pub mod Reading
+pub mod KeysRead

@@ -4,10 +4,11 @@
 ghost use Rattle.std.specs.Prelude.{◌≡◌, ◌∷◌, [], false, None, length, is_some, IfOk, IfErr};
 ghost use Rattle.std.specs.Prelude.{IfSome, OnOk};
 ghost use Rattle.std.specs.Option.{option_copied};
-ghost use Rattle.keyring_trait.specs.Keyring.{KeyringGoes, Opens, UnwrapCause, WrapCause, Wraps};
-ghost use Rattle.keyring_trait.specs.Keyring.{refusal_with, wanted};
-ghost use Rattle.keydir_keyring.specs.Answers.{FindsAsRaw, IsRawOf, KeydirAnswers, KeydirKeeps};
-ghost use Rattle.keydir_keyring.specs.Answers.{WrapsAsRaw};
+ghost use Rattle.keyring_trait.specs.Keyring.{FindsBy, KeyringGoes, Opens, UnwrapCause, WrapCause};
+ghost use Rattle.keyring_trait.specs.Keyring.{Wraps, WrapsBy, refusal_with, wanted};
+ghost use Rattle.keyring_trait.specs.Uses.{AskedOnce};
+ghost use Rattle.keydir_keyring.specs.Answers.{FindsAsRaw, IsRawOf, KeyIsReadBy, KeydirAnswers};
+ghost use Rattle.keydir_keyring.specs.Answers.{KeydirKeeps, WrapsAsRaw};
 ghost use Rattle.keydir_keyring.specs.Keydir.{keydir_meaning};
 
 use crate::keydir::KeydirKeyring;
@@ -28,6 +29,9 @@ use std::alloc::Global;
 /// 32 bytes; only where the shelf's count of faults rose in the call, or the file isn't there, or
 /// gave more or fewer than 32 bytes. It raises the keyring's own count. `Memory` comes only where
 /// there was a key to read. The shelf's files stay as they are.
+///
+/// To its callers it shows the keys that the calls of its shelf read so far: a call that answers went
+/// by one more, and one that fails by none.
 impl<S: Shelf + Drop> Keyring for KeydirKeyring<S> {
     ghost meaning = { λ k. keydir_meaning S.state k };
 
@@ -52,6 +56,9 @@ impl<S: Shelf + Drop> Keyring for KeydirKeyring<S> {
             (keydir_meaning S.state self.new) }
         ensures wraps { IfOk result (Wraps (keydir_meaning S.state self.old) context.now random.now
             (option_copied key.entry)) }
+        ensures used { AskedOnce (keydir_meaning S.state self.old).uses
+            (keydir_meaning S.state self.new).uses (WrapsBy (keydir_meaning S.state self.old).wraps
+            context.now random.now (option_copied key.entry) result) }
         ensures taken { OnOk result (refusal_with (is_some key.entry)
             (keydir_meaning S.state self.old) ≡ None) }
         ensures cause { IfErr result (WrapCause (refusal_with (is_some key.entry)
@@ -74,6 +81,8 @@ impl<S: Shelf + Drop> Keyring for KeydirKeyring<S> {
             (keydir_meaning S.state self.new) }
         ensures opens { IfOk result (Opens (keydir_meaning S.state self.old)
             (keydir_meaning S.state self.new) context.now entries.now) }
+        ensures used { AskedOnce (keydir_meaning S.state self.old).uses
+            (keydir_meaning S.state self.new).uses (FindsBy context.now entries.now result) }
         ensures cause { IfErr result (UnwrapCause self.old.faults self.new.faults) }
         ensures keeps { KeydirKeeps S.state self.old self.new }
         ensures answers { KeydirAnswers S.state self.old self.new
@@ -92,6 +101,8 @@ impl<S: Shelf> KeydirKeyring<S> {
         ensures active { IfOk result (λ keyring. keyring.retired ≡ false) }
         ensures keeps { KeydirKeeps S.state self.old self.new }
         ensures answers { KeydirAnswers S.state self.old self.new (IsRawOf self.old) result }
+        ensures used { AskedOnce (keydir_meaning S.state self.old).uses
+            (keydir_meaning S.state self.new).uses (KeyIsReadBy result) }
     {
         let Some(key) = read_key(&mut self.shelf, self.file.as_str()) else {
             self.faults = self.faults.saturating_add(1);

@@ -4,6 +4,7 @@ ghost use Rattle.std.specs.Prelude.{◌≡◌, ◌<◌, ◌≤◌, ◌+◌, List
 ghost use Rattle.std.specs.Prelude.{OnErr};
 ghost use Rattle.esdk_fields.specs.Counts.{CountsGiven};
 ghost use Rattle.esdk_base.specs.Shelf.{HasCauseOrMissing, Holds, is_missing};
+ghost use Rattle.keydir_keyring.specs.KeysRead.{ShowsFront, ShowsKey};
 ghost use Rattle.keydir_keyring.specs.Reading.{Gave, IsFilled, IsKeyFront, ReadsFewer};
 ghost use Rattle.keydir_keyring.specs.Reading.{ReadsKeyFront, ReadsKey, ReadsMore};
 
@@ -20,6 +21,7 @@ pub(crate) fn read_key<S: Shelf>(shelf: &mut S, file: &str) -> Option<[u8; 32]>
     ensures later { (S.state shelf.old).faults ≤ (S.state shelf.new).faults }
     ensures most { (S.state shelf.new).given ≤ (S.state shelf.old).given + 33 }
     ensures key { ReadsKey (S.state shelf.old) (S.state shelf.new) file.now result }
+    ensures shown { ShowsKey (S.state shelf.old).calls (S.state shelf.new).calls file.now result }
 {
     // One byte more than a key has shows whether the file goes on behind it.
     let mut room = [0; KEY_LENGTH + 1];
@@ -49,6 +51,8 @@ fn read_front<S: Shelf>(shelf: &mut S, file: &str, room: &mut [u8]) -> Result<us
         file.now room.new) }
     ensures unread { OnErr result (ReadsFewer (S.state shelf.old).calls (S.state shelf.new).calls
         file.now (length room.old)) }
+    ensures shown { ShowsFront (S.state shelf.old).calls (S.state shelf.new).calls
+        file.now room.new result }
     ensures gave { IfOk result (Gave (S.state shelf.old) (S.state shelf.new)) }
     ensures most { (S.state shelf.new).given ≤ (S.state shelf.old).given + length room.old }
     ensures cause { HasCauseOrMissing (is_missing (S.state shelf.old).files file.now)

@@ -7,3 +7,4 @@ pub mod Least
 pub mod Holding
 pub mod Back
 pub mod Going
+pub mod Using

@@ -1,7 +1,7 @@
 -- What a keyring is to its callers, and what its calls answer.
 -- AWS Encryption SDK Specification, "Keyring Interface", OnEncrypt and OnDecrypt.
 use Rattle.std.specs.Prelude.{◌≡◌, ℕ, ◌+◌, ◌*◌, ◌≤◌, Bool, true, false, List, length, take, drop, ⊤}
-use Rattle.std.specs.Prelude.{Option, Some, None, IfSome}
+use Rattle.std.specs.Prelude.{Option, Some, None, IfSome, Result, Ok, Err}
 use Rattle.esdk_fields.specs.Counts.{Rose, Stayed}
 use Rattle.context_codec.specs.Context.{KeyValue}
 use Rattle.edk_codec.specs.Entry.{Entry}
@@ -9,11 +9,13 @@ use Rattle.keyring_trait.specs.declared.ring_refusals.RingRefusal.{RingRefusal}
 use Rattle.keyring_trait.specs.declared.ring_refusals.RingError.{RingError}
 use Rattle.keyring_trait.specs.declared.ring_refusals.RingError.TheVariants.{Refused, KeyringFault}
 use Rattle.keyring_trait.specs.declared.ring_refusals.RingError.TheVariants.{Memory}
-use Rattle.keyring_trait.specs.Wrapping.{WrapKeyValue, unwrapped, made, ivs_of, IsOpened}
+use Rattle.keyring_trait.specs.Uses.{KeyUse}
+use Rattle.keyring_trait.specs.Wrapping.{WrapKeyValue, active, unwrapped, made, ivs_of, IsOpened}
 
 -- The wrapping keys, retired or not, where the keyring tells them; how many entries it makes of a
--- data key; what it refuses with a data key handed to it, and without one; how often it failed; and
--- whether it is steady, so that it never fails.
+-- data key; what it refuses with a data key handed to it, and without one; how often it failed;
+-- whether it is steady, so that it never fails; and which keys its calls went by, where it shows
+-- that.
 pub record KeyringMeaning : Type 0 where
   pub keys : Option (List WrapKeyValue)
   pub wraps : ℕ
@@ -21,8 +23,10 @@ pub record KeyringMeaning : Type 0 where
   pub refuses_none : Option RingRefusal
   pub faults : ℕ
   pub steady : Bool
+  pub uses : Option (List KeyUse)
 
--- A call keeps all but the count of faults. That never falls, and of a steady keyring it stays.
+-- A call keeps all but the count of faults and what is shown of the keys' uses. That count never
+-- falls, and of a steady keyring it stays.
 pub record KeyringGoes (old new : KeyringMeaning) : Type 0 where
   pub keys : new.keys ≡ old.keys
   pub wraps : new.wraps ≡ old.wraps
@@ -69,6 +73,20 @@ pub record Wraps (m : KeyringMeaning) (c : List KeyValue) (random : List ℕ)
   pub told : IfSome m.keys (λ keys. wrapped.entries
       ≡ made keys c wrapped.key (ivs_of m.wraps (ivs_in handed random)))
 
+-- These keys made the entries: each of them that isn't retired the wrap of the data key, in order.
+-- There are as many such keys as the keyring has wraps.
+pub record AreMadeBy (wraps : ℕ) (c : List KeyValue) (ivs : List ℕ) (wrapped : WrappedValue)
+    (keys : List WrapKeyValue) : Type 0 where
+  pub each : length (active keys) ≡ wraps
+  pub entries : wrapped.entries ≡ made keys c wrapped.key (ivs_of wraps ivs)
+
+-- What a call that went by these keys wraps: what they made.
+abbrev pub WrapsBy : ℕ → List KeyValue → List ℕ → Option (List ℕ) → Result WrappedValue RingError
+    → List WrapKeyValue → Type 0
+WrapsBy wraps c random handed (Ok wrapped) keys =
+    AreMadeBy wraps c (ivs_in handed random) wrapped keys
+WrapsBy wraps c random handed (Err e) keys = ⊤
+
 -- Why nothing is wrapped: the refusal that stands, or a failure that was counted, or want of
 -- memory; the latter two only where no refusal stands.
 abbrev pub WrapCause : Option RingRefusal → ℕ → ℕ → RingError → Type 0
@@ -92,6 +110,15 @@ abbrev pub Opens : KeyringMeaning → KeyringMeaning → List KeyValue → List 
     → Type 0
 Opens old new c entries found =
     IfSome old.keys (λ keys. OpensWith keys entries c (Stayed old.faults new.faults) found)
+
+-- What a call that went by these keys finds: just what the first of them opens, and for it from
+-- the first entry, whatever failed meanwhile; and where a failure is the answer, none opens one.
+abbrev pub FindsBy : List KeyValue → List Entry → Result (Option (List ℕ)) RingError
+    → List WrapKeyValue → Type 0
+FindsBy c entries (Ok found) keys = found ≡ unwrapped keys entries c
+FindsBy c entries (Err (Refused r)) keys = ⊤
+FindsBy c entries (Err KeyringFault) keys = unwrapped keys entries c ≡ None
+FindsBy c entries (Err Memory) keys = ⊤
 
 -- Why it isn't known what opens: a failure that was counted, or want of memory.
 abbrev pub UnwrapCause : ℕ → ℕ → RingError → Type 0

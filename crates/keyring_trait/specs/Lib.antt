@@ -1,4 +1,5 @@
 pub mod Wrapping
+pub mod Uses
 pub mod Unlocking
 pub mod Laws
 pub mod Keyring

@@ -25,6 +25,7 @@ use Rattle.keyring_trait.specs.Laws.{HasTwoValues}
 use Rattle.keyring_trait.specs.Materials.{EncMaterialsValue, DecMaterialsValue}
 use Rattle.keyring_trait.specs.Requests.{EncRequestValue, DecRequestValue, required_absent}
 use Rattle.keyring_trait.specs.Unlocking.{reserved_key, pair_offence}
+use Rattle.keyring_trait.specs.Uses.{KeyUse}
 use Rattle.keyring_trait.specs.Wrapping.{WrapKeyValue, first_some, unwrapped, made, ivs_of}
 use Rattle.keyring_trait.specs.Wrapping.{IsOpened, AreIvs}
 
@@ -63,19 +64,20 @@ TellsOn old new = (keys : List WrapKeyValue) → old keys → new keys
 -- keys, retired or not, in order; that it is exact, so that it refuses exactly where the
 -- definitions say so, in their order, and requires its own demands and no more; which lines of what
 -- it served it bears, so that it can go on from them; and which lines are within the limits of its
--- cache, or, without a cache, say what is true of all that it serves. Then the last materials that
--- it gave: to this request to encrypt, at this moment, with these random bytes; and those that it
--- found for this request to decrypt, at this moment. A manager whose answers rest on nothing but
--- the call may take the relation that always holds for these two; one that asks another manager
--- says what that one gave.
+-- cache, or, without a cache, say what is true of all that it serves; and what its keyrings show of
+-- the uses of their keys. Then the materials that it gave in one call, before which its keyrings
+-- showed this: to this request to encrypt, at this moment, with these random bytes; and those that
+-- it found so for this request to decrypt, at this moment. One that asks a keyring says by which
+-- keys; one that asks another manager says what that one gave.
 pub record ManagerNow : Type 1 where
   pub meaning : ManagerMeaning
   pub tells : List WrapKeyValue → Type 0
   pub exact : Type 0
   pub bears : List JournalLine → Type 0
   pub within : List JournalLine → Type 0
-  pub gave : EncRequestValue → ℕ → List ℕ → EncMaterialsValue → Type 0
-  pub found : DecRequestValue → ℕ → DecMaterialsValue → Type 0
+  pub uses : Option (List KeyUse)
+  pub gave : Option (List KeyUse) → EncRequestValue → ℕ → List ℕ → EncMaterialsValue → Type 0
+  pub found : Option (List KeyUse) → DecRequestValue → ℕ → DecMaterialsValue → Type 0
 
 -- What a manager keeps from one moment to a later one: all that it means but the count of faults,
 -- the keys that it tells, of which a plain manager tells no others later, that it is exact, and the

@@ -27,16 +27,16 @@ said_between old new = record {
   finds_none = FindsNone old new;
 }
 
--- what it may have said in the last of these calls: its materials are those that it says it gave or
--- found last
+-- what it may have said in one call, the only one between: its materials are those that it says it
+-- gave or found then
 abbrev pub said_last : ManagerNow → ManagerNow → Saying
 said_last old new = record {
   wraps = old.meaning.wraps;
   gives = λ request now random materials.
-      GivesMaterials old request random materials × new.gave request now random materials;
+      GivesMaterials old request random materials × new.gave old.uses request now random materials;
   gives_none = GivesNone old new;
   finds = λ request now materials.
-      FindsMaterials old new request materials × new.found request now materials;
+      FindsMaterials old new request materials × new.found old.uses request now materials;
   finds_none = FindsNone old new;
 }
 

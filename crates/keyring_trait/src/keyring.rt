@@ -6,7 +6,9 @@ ghost use Rattle.std.specs.Option.{option_copied};
 ghost use Rattle.esdk_fields.specs.Counts.{Stayed};
 ghost use Rattle.keyring_trait.specs.Wrapping.{active};
 ghost use Rattle.keyring_trait.specs.Keyring.{KeyringMeaning, KeyringGoes, refusal_with, wanted};
-ghost use Rattle.keyring_trait.specs.Keyring.{Wraps, WrapCause, Opens, UnwrapCause};
+ghost use Rattle.keyring_trait.specs.Keyring.{Wraps, WrapsBy, WrapCause, Opens, FindsBy};
+ghost use Rattle.keyring_trait.specs.Keyring.{UnwrapCause};
+ghost use Rattle.keyring_trait.specs.Uses.{AskedOnce};
 
 use crate::data_keys::DataKey;
 use crate::ring_refusals::{RingError, RingRefusal};
@@ -18,7 +20,8 @@ use std::alloc::Global;
 /// What wraps data keys for a header, and finds the data key that a header's entries hold.
 /// AWS Encryption SDK Specification, "Keyring Interface".
 pub trait Keyring: Drop {
-    /// What the keyring means to its callers. Every call keeps all of it but the count of faults.
+    /// What the keyring means to its callers. Every call keeps all of it but the count of faults
+    /// and which keys the calls went by.
     ghost meaning: { Self → KeyringMeaning };
 
     /// How many entries the keyring makes of a data key, at most 64. Where the keys are told, as
@@ -41,6 +44,9 @@ pub trait Keyring: Drop {
     /// isn't retired, in order, each with the next 12 random bytes as IV; the text of the context,
     /// which has to be the whole context, is authenticated with it.
     ///
+    /// Where the keyring shows which keys its calls go by: each is read once at the most, and the
+    /// entries are the wraps under those that this call went by.
+    ///
     /// `Refused` exactly where `refuses` says so, before all else. `KeyringFault` only where the
     /// count of faults rose.
     fn on_encrypt(
@@ -54,6 +60,9 @@ pub trait Keyring: Drop {
         ensures goes { KeyringGoes (meaning self.old) (meaning self.new) }
         ensures wraps { IfOk result (Wraps (meaning self.old) context.now random.now
             (option_copied key.entry)) }
+        ensures used { AskedOnce (meaning self.old).uses (meaning self.new).uses
+            (WrapsBy (meaning self.old).wraps context.now random.now (option_copied key.entry)
+            result) }
         ensures taken { OnOk result (refusal_with (is_some key.entry) (meaning self.old) ≡ None) }
         ensures cause { IfErr result (WrapCause (refusal_with (is_some key.entry)
             (meaning self.old)) (meaning self.old).faults (meaning self.new).faults) };
@@ -62,6 +71,9 @@ pub trait Keyring: Drop {
     /// and None only where none opens one; where nothing failed, it is what the first key opens,
     /// and for it from the first entry. The text of the context, which has to be the whole context,
     /// is what was authenticated. An entry that is of no key, or doesn't open, is passed over.
+    ///
+    /// Where the keyring shows which keys its calls go by: each is read once at the most, and what
+    /// is found is just what the first opens of those that this call went by.
     ///
     /// `KeyringFault` only where the count of faults rose; never `Refused`.
     fn on_decrypt(
@@ -73,6 +85,8 @@ pub trait Keyring: Drop {
         ensures goes { KeyringGoes (meaning self.old) (meaning self.new) }
         ensures opens { IfOk result (Opens (meaning self.old)
             (meaning self.new) context.now entries.now) }
+        ensures used { AskedOnce (meaning self.old).uses (meaning self.new).uses
+            (FindsBy context.now entries.now result) }
         ensures cause { IfErr result (UnwrapCause (meaning self.old).faults
             (meaning self.new).faults) };
 }

@@ -71,7 +71,8 @@ pub trait Manager: Drop {
         ensures cause { IfErr result (GivesNone (state self.old) (state self.new) request.now) }
         ensures bears { BearsOn (state self.old) (state self.new) Seal now request.now.declared
             enc_served result }
-        ensures gave { IfOk result ((state self.new).gave request.now now random.now) };
+        ensures gave { IfOk result ((state self.new).gave (state self.old).uses request.now now
+            random.now) };
 
     /// Materials to decrypt with, at the moment `now` in seconds.
     ///
@@ -90,5 +91,6 @@ pub trait Manager: Drop {
         ensures cause { IfErr result (FindsNone (state self.old) (state self.new) request.now) }
         ensures bears { BearsOn (state self.old) (state self.new) Unseal now None dec_served
             result }
-        ensures found { IfOk result ((state self.new).found request.now now) };
+        ensures found { IfOk result ((state self.new).found (state self.old).uses request.now
+            now) };
 }

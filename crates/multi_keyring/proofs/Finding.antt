@@ -6,12 +6,13 @@ use Rattle.std.proofs.Math.Seq.{set-append_seam, get_or-append_seam}
 use Rattle.context_codec.specs.Context.{KeyValue}
 use Rattle.edk_codec.specs.Entry.{Entry}
 use Rattle.keyring_trait.specs.Wrapping.{unwrapped}
-use Rattle.keyring_trait.specs.Keyring.{KeyringMeaning, KeyringGoes}
+use Rattle.keyring_trait.specs.Keyring.{KeyringMeaning, KeyringGoes, FindsBy}
+use Rattle.keyring_trait.specs.Uses.{AskedOnce}
 use Rattle.keyring_trait.specs.declared.ring_refusals.RingError.{RingError}
 use Rattle.keyring_trait.specs.declared.ring_refusals.RingError.TheVariants.{KeyringFault}
 use Rattle.raw_aes_keyring.specs.Keyring.{raw_meaning}
 use Rattle.multi_keyring.specs.Nodes.{forest, node_height, all_of, generator_first}
-use Rattle.multi_keyring.specs.Tree.{both_keys, all_keys, all_faults, leaves, node_leaves, tree_meaning}
+use Rattle.multi_keyring.specs.Tree.{both_keys, all_keys, all_faults, all_uses, leaves, node_leaves, tree_meaning}
 use Rattle.multi_keyring.specs.Rows.{AllCounted, AllGo, OpensAs, FindsNoKey, NoneOpens, RestBehind}
 use Rattle.multi_keyring.specs.Staying.{Stays}
 use Rattle.multi_keyring.specs.Unwrapping.{Unwraps}
@@ -20,6 +21,7 @@ use Rattle.multi_keyring.specs.declared.tree.Node.TheVariants.{Raw, Handed, Mult
 use Rattle.multi_keyring.specs.declared.tree.Members.{Members}
 use Rattle.multi_keyring.proofs.Going.{faults_go}
 use Rattle.multi_keyring.proofs.Joining.{both_keys-right, all_keys-append, all_faults-append, AllGo-append, NoneOpens-append, RestBehind-append, RestBehind-unasked, so_far, after, opens_join, opens_ends, so_far-none, after-none}
+use Rattle.multi_keyring.proofs.Using.{uses-append, once_join, once_ends, once_alone, finds_join, finds_ends}
 
 -- ---- one row behind another
 
@@ -63,6 +65,9 @@ unwraps_join leaf f r os ns ps qs c es u v = record {
       (opens_join f r (all_keys (map (tree_meaning leaf) os)) (all_keys (map (tree_meaning leaf) ps)) (all_faults (map (tree_meaning leaf) os)) (all_faults (map (tree_meaning leaf) ns))
       (all_faults (map (tree_meaning leaf) ps)) (all_faults (map (tree_meaning leaf) qs)) c es
       (faults_go (map (tree_meaning leaf) os) (map (tree_meaning leaf) ns) u.stays.goes) (faults_go (map (tree_meaning leaf) ps) (map (tree_meaning leaf) qs) v.stays.goes) u.opens v.opens);
+  used = rw (uses-append leaf os ps, uses-append leaf ns qs)
+      (once_join (all_uses (map (tree_meaning leaf) os)) (all_uses (map (tree_meaning leaf) ns)) (all_uses (map (tree_meaning leaf) ps)) (all_uses (map (tree_meaning leaf) qs))
+      (FindsBy c es (so_far f)) (FindsBy c es r) (FindsBy c es (after f r)) (λ keys others first next. finds_join f r c es keys others first next) u.used v.used);
   none = λ e. rw (leaves-append leaf os ps, leaves-append leaf ns qs)
       (NoneOpens-append (leaves leaf (forest os)) (leaves leaf (forest ns)) (leaves leaf (forest ps)) (leaves leaf (forest qs)) c es (u.none (so_far-none f)) (v.none (after-none f r e)));
   behind = rw (leaves-append leaf os ps, leaves-append leaf ns qs)
@@ -78,6 +83,9 @@ unwraps_ends leaf r os ns rest c es ends u same = record {
       (opens_ends r (all_keys (map (tree_meaning leaf) os)) (all_keys (map (tree_meaning leaf) rest)) (all_faults (map (tree_meaning leaf) os)) (all_faults (map (tree_meaning leaf) ns))
       (all_faults (map (tree_meaning leaf) rest)) (all_faults (map (tree_meaning leaf) rest)) c es
       (faults_go (map (tree_meaning leaf) os) (map (tree_meaning leaf) ns) u.stays.goes) (faults_go (map (tree_meaning leaf) rest) (map (tree_meaning leaf) rest) same.goes) ends u.opens);
+  used = rw (uses-append leaf os rest, uses-append leaf ns rest)
+      (once_ends (all_uses (map (tree_meaning leaf) os)) (all_uses (map (tree_meaning leaf) ns)) (all_uses (map (tree_meaning leaf) rest)) (FindsBy c es r) (FindsBy c es r)
+      (λ keys others finds. finds_ends r c es keys others ends finds) u.used);
   none = λ e. absurd (ends e);
   behind = rw (leaves-append leaf os rest, leaves-append leaf ns rest) (RestBehind-unasked (leaves leaf (forest os)) (leaves leaf (forest ns)) (leaves leaf (forest rest)) c es u.behind);
 }
@@ -97,6 +105,7 @@ pub record NodeAnswers {P : Type 0} (leaf : P → KeyringMeaning) (o n : Node P)
   pub height : node_height n ≡ node_height o
   pub goes : KeyringGoes (tree_meaning leaf o) (tree_meaning leaf n)
   pub opens : OpensAs (tree_meaning leaf o).keys (tree_meaning leaf o).faults (tree_meaning leaf n).faults c es r
+  pub used : AskedOnce (tree_meaning leaf o).uses (tree_meaning leaf n).uses (FindsBy c es r)
   pub none : FindsNoKey r → NoneOpens (node_leaves leaf o) (node_leaves leaf n) c es
   pub behind : RestBehind (node_leaves leaf o) (node_leaves leaf n) c es
 
@@ -106,6 +115,7 @@ pub one_unwraps : {P : Type 0} (leaf : P → KeyringMeaning) (o n : Node P) (c :
 one_unwraps leaf o n c es r is = record {
   stays = record { heights = ap (λ (h : ℕ). h ∷ []) is.height; goes = (is.goes, tt) };
   opens = rw (both_keys-right (tree_meaning leaf o).keys, plus_none (tree_meaning leaf o).faults, plus_none (tree_meaning leaf n).faults) is.opens;
+  used = once_alone (tree_meaning leaf o).uses (tree_meaning leaf n).uses (FindsBy c es r) is.used;
   none = λ e. rw (leaves_one leaf o, leaves_one leaf n) (is.none e);
   behind = rw (leaves_one leaf o, leaves_one leaf n) is.behind;
 }
@@ -116,6 +126,7 @@ unfolding unwrapped
 unwraps_none leaf c es = record {
   stays = record { heights = refl; goes = tt };
   opens = record { opened = tt; none = λ _. refl; first = λ _. refl };
+  used = ([], refl, refl);
   none = λ _. tt;
   behind = tt;
 }

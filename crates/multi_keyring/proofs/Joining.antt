@@ -113,10 +113,10 @@ opened_right : (ks ls : List WrapKeyValue) (es : List Entry) (c : List KeyValue)
 opened_right ks ls es c key is =
     record { under = is.under; entry = is.entry; key_listed = Contains-append_right ks ls is.under is.key_listed; entry_listed = is.entry_listed; wrap = is.wrap }
 
-found_first : (ks ls : List WrapKeyValue) (es : List Entry) (c : List KeyValue) (key : List ℕ) → Some key ≡ unwrapped ks es c → Some key ≡ unwrapped (ks ++ ls) es c
+pub found_first : (ks ls : List WrapKeyValue) (es : List Entry) (c : List KeyValue) (key : List ℕ) → Some key ≡ unwrapped ks es c → Some key ≡ unwrapped (ks ++ ls) es c
 found_first ks ls es c key is = ap (λ o. option_or o (unwrapped ls es c)) is ∙ sym (unwrapped-append ks ls es c)
 
-found_next : (ks ls : List WrapKeyValue) (es : List Entry) (c : List KeyValue) (found : Option (List ℕ)) → unwrapped ks es c ≡ None → found ≡ unwrapped ls es c → found ≡ unwrapped (ks ++ ls) es c
+pub found_next : (ks ls : List WrapKeyValue) (es : List Entry) (c : List KeyValue) (found : Option (List ℕ)) → unwrapped ks es c ≡ None → found ≡ unwrapped ls es c → found ≡ unwrapped (ks ++ ls) es c
 found_next ks ls es c found none is = is ∙ ap (λ o. option_or o (unwrapped ls es c)) (sym none) ∙ sym (unwrapped-append ks ls es c)
 
 stayed_first : (a b x y : ℕ) → a ≤ b → x ≤ y → Stayed (a + x) (b + y) → Stayed a b

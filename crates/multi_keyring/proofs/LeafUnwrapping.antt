@@ -5,7 +5,8 @@ use Rattle.std.proofs.lemmas.List.{append_assoc, append-nil, map-append}
 use Rattle.std.proofs.Math.Seq.{set-append_seam, get_or-append_seam}
 use Rattle.context_codec.specs.Context.{KeyValue}
 use Rattle.edk_codec.specs.Entry.{Entry}
-use Rattle.keyring_trait.specs.Keyring.{KeyringMeaning, KeyringGoes, Opens, UnwrapCause}
+use Rattle.keyring_trait.specs.Keyring.{KeyringMeaning, KeyringGoes, Opens, UnwrapCause, FindsBy}
+use Rattle.keyring_trait.specs.Uses.{AskedOnce}
 use Rattle.keyring_trait.specs.declared.ring_refusals.RingError.{RingError}
 use Rattle.keyring_trait.specs.declared.ring_refusals.RingError.TheVariants.{Refused, KeyringFault, Memory}
 use Rattle.multi_keyring.specs.Nodes.{forest, node_height, all_of}
@@ -141,6 +142,7 @@ answers_between before behind old now number own c es r number_is a = record {
   now_is = ap (λ (l : List KeyringMeaning). before ++ (l ++ behind)) a.now_is ∙ seam before a.before a.left a.behind behind;
   goes = a.goes;
   opens = a.opens;
+  used = a.used;
 }
 
 -- What a tree answers whose leaf is asked.
@@ -243,9 +245,9 @@ opens_as m n c es (Err e) opens cause = cause
 
 -- a keyring is a row by itself
 pub one_answers : (m n : KeyringMeaning) (number : ℕ) (c : List KeyValue) (es : List Entry) (r : Result (Option (List ℕ)) RingError) → 1 ≤ number → number ≤ length (m ∷ []) → KeyringGoes m n
-    → IfOk r (Opens m n c es) → IfErr r (UnwrapCause m.faults n.faults) → AnswersAt number (m ∷ []) (n ∷ []) c es r
-one_answers m n number c es r first last goes opens cause =
-    record { before = []; asked = m; left = n; behind = []; at = omega (arith, first, last); old_is = refl; now_is = refl; goes = goes; opens = opens_as m n c es r opens cause }
+    → IfOk r (Opens m n c es) → IfErr r (UnwrapCause m.faults n.faults) → AskedOnce m.uses n.uses (FindsBy c es r) → AnswersAt number (m ∷ []) (n ∷ []) c es r
+one_answers m n number c es r first last goes opens cause used =
+    record { before = []; asked = m; left = n; behind = []; at = omega (arith, first, last); old_is = refl; now_is = refl; goes = goes; opens = opens_as m n c es r opens cause; used = used }
 
 -- ---- the cause of an error
 

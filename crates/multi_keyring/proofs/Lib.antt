@@ -11,3 +11,4 @@ pub mod Multis
 pub mod Leaves
 pub mod Unvisited
 pub mod LeafUnwrapping
+pub mod Using

@@ -5,10 +5,10 @@ use Rattle.std.proofs.lemmas.List.{append_assoc, append-nil, take-append-le, dro
 use Rattle.context_codec.specs.Context.{KeyValue}
 use Rattle.edk_codec.specs.Entry.{Entry}
 use Rattle.keyring_trait.specs.Wrapping.{WrapKeyValue, wrap, active, made_under, made, ivs_of}
-use Rattle.keyring_trait.specs.Keyring.{KeyringMeaning, WrappedValue, Wraps, ivs_in}
+use Rattle.keyring_trait.specs.Keyring.{KeyringMeaning, WrappedValue, Wraps, AreMadeBy, ivs_in}
 use Rattle.keyring_trait.proofs.Active.{active-append}
 use Rattle.multi_keyring.specs.Tree.{both_keys, all_keys, all_wraps}
-use Rattle.multi_keyring.specs.Rows.{AllCounted, Appends}
+use Rattle.multi_keyring.specs.Rows.{AllCounted, Appends, AppendsBy}
 use Rattle.multi_keyring.proofs.Counted.{all_told}
 use Rattle.multi_keyring.proofs.Joining.{both_keys-right, all_keys-append, all_wraps-append}
 
@@ -80,3 +80,21 @@ one_appends m c own handed wrapped before wraps = record {
 -- no keyrings append nothing
 pub none_append : (c : List KeyValue) (key : List ℕ) (es : List Entry) → Appends [] c key [] es es
 none_append c key es = record { count = omega arith; told = sym (append-nil es) }
+
+-- ---- the keys that made them
+
+-- what two rows append that went by these keys
+pub appends_by_join : (a b : ℕ) (c : List KeyValue) (key r s : List ℕ) (before mid now : List Entry) → length r ≡ 12 * a → (keys others : List WrapKeyValue) → AppendsBy a c key r before mid keys
+    → AppendsBy b c key s mid now others → AppendsBy (a + b) c key (r ++ s) before now (keys ++ others)
+appends_by_join a b c key r s before mid now long keys others first next = record {
+  each = omega (arith, ap length (active-append keys others), length-append (active keys) (active others), first.each, next.each);
+  entries = both_made (Some keys) (Some others) a b c key r s before mid now long first.each first.entries next.entries;
+}
+
+-- what one keyring appends that was handed the data key
+pub one_appends_by : (n : ℕ) (c : List KeyValue) (own key : List ℕ) (wrapped : WrappedValue) (before : List Entry) (keys : List WrapKeyValue) → wrapped.key ≡ key → AreMadeBy n c own wrapped keys
+    → AppendsBy n c key own before (before ++ wrapped.entries) keys
+one_appends_by n c own key wrapped before keys is made_by = record {
+  each = made_by.each;
+  entries = ap (λ (l : List Entry). before ++ l) (made_by.entries ∙ ap (λ (k : List ℕ). made keys c k (ivs_of n own)) is);
+}

@@ -2,7 +2,8 @@
 use Rattle.std.specs.Prelude.{◌≡◌, ℕ, ◌+◌, ◌≤◌, List, ◌∷◌, ◌++◌, length, Option, Result}
 use Rattle.context_codec.specs.Context.{KeyValue}
 use Rattle.edk_codec.specs.Entry.{Entry}
-use Rattle.keyring_trait.specs.Keyring.{KeyringMeaning, KeyringGoes}
+use Rattle.keyring_trait.specs.Keyring.{KeyringMeaning, KeyringGoes, FindsBy}
+use Rattle.keyring_trait.specs.Uses.{AskedOnce}
 use Rattle.keyring_trait.specs.declared.ring_refusals.RingError.{RingError}
 use Rattle.multi_keyring.specs.Nodes.{forest}
 use Rattle.multi_keyring.specs.Tree.{leaves, node_leaves}
@@ -10,8 +11,8 @@ use Rattle.multi_keyring.specs.Rows.{OpensAs}
 use Rattle.multi_keyring.specs.Staying.{Stays}
 use Rattle.multi_keyring.specs.declared.tree.Node.{Node}
 
--- The keyring of this number in a row, counted from 1, answered as it does by itself; the others
--- mean what they meant.
+-- The keyring of this number in a row, counted from 1, answered as it does by itself, asked once;
+-- the others mean what they meant.
 pub record AnswersAt (number : ℕ) (old now : List KeyringMeaning) (c : List KeyValue)
     (entries : List Entry) (answer : Result (Option (List ℕ)) RingError) : Type 0 where
   pub before : List KeyringMeaning
@@ -23,6 +24,7 @@ pub record AnswersAt (number : ℕ) (old now : List KeyringMeaning) (c : List Ke
   pub now_is : now ≡ before ++ left ∷ behind
   pub goes : KeyringGoes asked left
   pub opens : OpensAs asked.keys asked.faults left.faults c entries answer
+  pub used : AskedOnce asked.uses left.uses (FindsBy c entries answer)
 
 -- So did the leaf of this number, of those of trees in a row.
 pub record AsksLeaf {P : Type 0} (leaf : P → KeyringMeaning) (number : ℕ) (old now : List (Node P))

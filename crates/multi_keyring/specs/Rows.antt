@@ -5,7 +5,8 @@ use Rattle.esdk_fields.specs.Counts.{Stayed}
 use Rattle.context_codec.specs.Context.{KeyValue}
 use Rattle.edk_codec.specs.Entry.{Entry}
 use Rattle.keyring_trait.specs.Wrapping.{WrapKeyValue, active, made, ivs_of, unwrapped}
-use Rattle.keyring_trait.specs.Keyring.{KeyringMeaning, KeyringGoes, OpensWith, UnwrapCause}
+use Rattle.keyring_trait.specs.Keyring.{KeyringMeaning, KeyringGoes, WrappedValue, OpensWith}
+use Rattle.keyring_trait.specs.Keyring.{UnwrapCause}
 use Rattle.keyring_trait.specs.declared.ring_refusals.RingError.{RingError}
 use Rattle.keyring_trait.specs.declared.ring_refusals.RingError.TheVariants.{Refused, KeyringFault}
 use Rattle.keyring_trait.specs.declared.ring_refusals.RingError.TheVariants.{Memory}
@@ -37,6 +38,19 @@ pub record Appends (ms : List KeyringMeaning) (c : List KeyValue) (key random : 
   pub count : length now ≡ length before + all_wraps ms
   pub told : IfSome (all_keys ms)
       (λ keys. now ≡ before ++ made keys c key (ivs_of (all_wraps ms) random))
+
+-- These keys made such entries: as many of them aren't retired as the row makes entries.
+pub record AppendsBy (wraps : ℕ) (c : List KeyValue) (key random : List ℕ)
+    (before now : List Entry) (keys : List WrapKeyValue) : Type 0 where
+  pub each : length (active keys) ≡ wraps
+  pub entries : now ≡ before ++ made keys c key (ivs_of wraps random)
+
+-- what a row appends that went by these keys
+abbrev pub RowWrapsBy : ℕ → List KeyValue → List ℕ → List ℕ → List Entry
+    → Result WrappedValue RingError → List WrapKeyValue → Type 0
+RowWrapsBy wraps c key random before (Ok wrapped) keys =
+    AppendsBy wraps c key random before wrapped.entries keys
+RowWrapsBy wraps c key random before (Err e) keys = ⊤
 
 -- what was found, or why it isn't known, where these keys are told and so many faults were and are
 -- counted

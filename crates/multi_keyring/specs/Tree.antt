@@ -5,6 +5,7 @@ use Rattle.std.specs.Prelude.{Option, Some, None, if◌then◌else◌}
 use Rattle.std.specs.Option.{option_or}
 use Rattle.keyring_trait.specs.Wrapping.{WrapKeyValue}
 use Rattle.keyring_trait.specs.Keyring.{KeyringMeaning}
+use Rattle.keyring_trait.specs.Uses.{KeyUse}
 use Rattle.keyring_trait.specs.declared.ring_refusals.RingRefusal.{RingRefusal}
 use Rattle.keyring_trait.specs.declared.ring_refusals.RingRefusal.TheVariants.{NoGenerator}
 use Rattle.keyring_trait.specs.declared.ring_refusals.RingRefusal.TheVariants.{GeneratorHasKey}
@@ -26,6 +27,17 @@ both_keys (Some keys) (Some others) = Some (keys ++ others)
 abbrev pub all_keys : List KeyringMeaning → Option (List WrapKeyValue)
 all_keys [] = Some []
 all_keys (m ∷ ms) = both_keys m.keys (all_keys ms)
+
+-- the uses of keys that the first shows, and then those that the others show, where both do
+abbrev pub both_uses : Option (List KeyUse) → Option (List KeyUse) → Option (List KeyUse)
+both_uses None others = None
+both_uses (Some uses) None = None
+both_uses (Some uses) (Some others) = Some (uses ++ others)
+
+-- those that all of them show, in order, where all do
+abbrev pub all_uses : List KeyringMeaning → Option (List KeyUse)
+all_uses [] = Some []
+all_uses (m ∷ ms) = both_uses m.uses (all_uses ms)
 
 -- how many entries they make together
 abbrev pub all_wraps : List KeyringMeaning → ℕ
@@ -55,7 +67,8 @@ generator_refusal (generator ∷ children) = option_or generator.refuses_none (f
 -- ---- a multi-keyring
 
 -- A multi-keyring of these members, the first of which is its generator where it has one. It tells
--- their keys, where all tell theirs; makes their entries; and its faults are theirs. With a data
+-- their keys, where all tell theirs, and shows by which of them its calls went, where all show it;
+-- makes their entries; and its faults are theirs. With a data
 -- key handed to it a generator refuses, or else the first child that does. Without one it refuses
 -- where it has no generator. No multi-keyring is made whose members make more than 64 entries, and
 -- no keyring's number of entries changes. A contract that says what the members mean now says of
@@ -68,6 +81,7 @@ joined_members has_generator members = record {
   refuses_none = if has_generator then generator_refusal members else Some NoGenerator;
   faults = all_faults members;
   steady = all_steady members && nat_lt (all_faults members) (2 ^ 64 - 1);
+  uses = all_uses members;
 }
 
 -- ---- a tree

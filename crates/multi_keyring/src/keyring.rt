@@ -1,7 +1,8 @@
 //! A tree as a keyring. AWS Encryption SDK Specification, "Keyring Interface" and "Multi-Keyring".
 
 ghost use Rattle.std.specs.Prelude.{IfOk, IfErr};
-ghost use Rattle.keyring_trait.specs.Keyring.{KeyringGoes, Opens, UnwrapCause};
+ghost use Rattle.keyring_trait.specs.Keyring.{FindsBy, KeyringGoes, Opens, UnwrapCause};
+ghost use Rattle.keyring_trait.specs.Uses.{AskedOnce};
 ghost use Rattle.multi_keyring.specs.Tree.{node_leaves, tree_meaning};
 ghost use Rattle.multi_keyring.specs.Rows.{FindsNoKey, NoneOpens, RestBehind};
 
@@ -57,6 +58,8 @@ impl<P: Keyring> Keyring for Node<P> {
             (tree_meaning P.meaning self.new) }
         ensures opens { IfOk result (Opens (tree_meaning P.meaning self.old)
             (tree_meaning P.meaning self.new) context.now entries.now) }
+        ensures used { AskedOnce (tree_meaning P.meaning self.old).uses
+            (tree_meaning P.meaning self.new).uses (FindsBy context.now entries.now result) }
         ensures cause { IfErr result (UnwrapCause (tree_meaning P.meaning self.old).faults
             (tree_meaning P.meaning self.new).faults) }
         ensures none { FindsNoKey result

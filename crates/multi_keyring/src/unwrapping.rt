@@ -2,7 +2,8 @@
 //! "Multi-Keyring", OnDecrypt.
 
 ghost use Rattle.std.specs.Prelude.{◌≡◌, ◌<◌, ◌^◌, length, is_some};
-ghost use Rattle.keyring_trait.specs.Keyring.{KeyringGoes};
+ghost use Rattle.keyring_trait.specs.Keyring.{FindsBy, KeyringGoes};
+ghost use Rattle.keyring_trait.specs.Uses.{AskedOnce};
 ghost use Rattle.multi_keyring.specs.Forest.{tallest};
 ghost use Rattle.multi_keyring.specs.Nodes.{all_of, node_height};
 ghost use Rattle.multi_keyring.specs.Tree.{joined_members, leaves, meanings, node_leaves};
@@ -34,6 +35,8 @@ impl<P: Keyring> Node<P> {
         ensures opens { OpensAs (tree_meaning P.meaning self.old).keys
             (tree_meaning P.meaning self.old).faults
             (tree_meaning P.meaning self.new).faults context.now entries.now result }
+        ensures used { AskedOnce (tree_meaning P.meaning self.old).uses
+            (tree_meaning P.meaning self.new).uses (FindsBy context.now entries.now result) }
         ensures none { FindsNoKey result
             → NoneOpens (node_leaves P.meaning self.old)
             (node_leaves P.meaning self.new) context.now entries.now }
@@ -65,6 +68,9 @@ impl<P: Keyring> Multi<P> {
             (joined_members self.new.0 (meanings P.meaning self.new.1)).faults context.now
             entries.now
             result }
+        ensures used { AskedOnce (joined_members self.old.0 (meanings P.meaning self.old.1)).uses
+            (joined_members self.new.0 (meanings P.meaning self.new.1)).uses
+            (FindsBy context.now entries.now result) }
         ensures none { FindsNoKey result
             → NoneOpens (leaves P.meaning self.old.1)
             (leaves P.meaning self.new.1) context.now entries.now }

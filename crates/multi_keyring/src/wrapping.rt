@@ -4,13 +4,15 @@
 ghost use Rattle.std.specs.Prelude.{◌≡◌, ◌<◌, ◌*◌, ◌^◌, None, length, map, min, is_some, IfOk};
 ghost use Rattle.std.specs.Prelude.{IfErr, OnOk};
 ghost use Rattle.std.specs.Option.{option_copied};
-ghost use Rattle.keyring_trait.specs.Keyring.{KeyringGoes, Wraps, WrapCause, refusal_with, wanted};
+ghost use Rattle.keyring_trait.specs.Keyring.{KeyringGoes, Wraps, WrapsBy, WrapCause, refusal_with};
+ghost use Rattle.keyring_trait.specs.Keyring.{wanted};
+ghost use Rattle.keyring_trait.specs.Uses.{AskedOnce};
 ghost use Rattle.multi_keyring.specs.Forest.{tallest};
 ghost use Rattle.multi_keyring.specs.Nodes.{all_of, node_height};
-ghost use Rattle.multi_keyring.specs.Tree.{all_faults, all_wraps, first_refusal, joined_members};
-ghost use Rattle.multi_keyring.specs.Tree.{meanings};
+ghost use Rattle.multi_keyring.specs.Tree.{all_faults, all_uses, all_wraps, first_refusal};
+ghost use Rattle.multi_keyring.specs.Tree.{joined_members, meanings};
 ghost use Rattle.multi_keyring.specs.Tree.{tree_meaning};
-ghost use Rattle.multi_keyring.specs.Rows.{Appends};
+ghost use Rattle.multi_keyring.specs.Rows.{Appends, RowWrapsBy};
 ghost use Rattle.multi_keyring.specs.Staying.{Stays};
 
 use crate::making::MAX_WRAPS;
@@ -38,6 +40,9 @@ impl<P: Keyring> Node<P> {
         ensures wraps { IfOk result
             (Wraps (tree_meaning P.meaning self.old) context.now random.now
             (option_copied key.entry)) }
+        ensures used { AskedOnce (tree_meaning P.meaning self.old).uses
+            (tree_meaning P.meaning self.new).uses (WrapsBy (tree_meaning P.meaning self.old).wraps
+            context.now random.now (option_copied key.entry) result) }
         ensures taken { OnOk result (refusal_with (is_some key.entry)
             (tree_meaning P.meaning self.old) ≡ None) }
         ensures cause { IfErr result (WrapCause (refusal_with (is_some key.entry)
@@ -71,6 +76,10 @@ impl<P: Keyring> Multi<P> {
             (Wraps (joined_members self.old.0 (meanings P.meaning self.old.1)) context.now
             random.now
             (option_copied key.entry)) }
+        ensures used { AskedOnce (joined_members self.old.0 (meanings P.meaning self.old.1)).uses
+            (joined_members self.new.0 (meanings P.meaning self.new.1)).uses
+            (WrapsBy (joined_members self.old.0 (meanings P.meaning self.old.1)).wraps
+            context.now random.now (option_copied key.entry) result) }
         ensures taken { OnOk result (refusal_with (is_some key.entry)
             (joined_members self.old.0 (meanings P.meaning self.old.1)) ≡ None) }
         ensures cause { IfErr result (WrapCause (refusal_with (is_some key.entry)
@@ -104,6 +113,10 @@ impl<P: Keyring> Members<P> {
         ensures wraps { IfOk result (Wraps (joined_members (is_some self.old.generator)
             (map (tree_meaning P.meaning) (all_of self.old)))
             context.now random.now (option_copied key.entry)) }
+        ensures used { AskedOnce (all_uses (map (tree_meaning P.meaning) (all_of self.old)))
+            (all_uses (map (tree_meaning P.meaning) (all_of self.new)))
+            (WrapsBy (min (all_wraps (map (tree_meaning P.meaning) (all_of self.old))) 64)
+            context.now random.now (option_copied key.entry) result) }
         ensures taken { OnOk result
             (refusal_with (is_some key.entry) (joined_members (is_some self.old.generator)
             (map (tree_meaning P.meaning) (all_of self.old))) ≡ None) }
@@ -158,6 +171,10 @@ fn wrap_with_all<P: Keyring>(
     ensures appends { IfOk result
         (λ wrapped. Appends (map (tree_meaning P.meaning) nodes.old.items) context.now begun.key
         random.now begun.entries wrapped.entries) }
+    ensures used { AskedOnce (all_uses (map (tree_meaning P.meaning) nodes.old.items))
+        (all_uses (map (tree_meaning P.meaning) nodes.new.items))
+        (RowWrapsBy (all_wraps (map (tree_meaning P.meaning) nodes.old.items)) context.now
+        begun.key random.now begun.entries result) }
     ensures cause { IfErr result
         (WrapCause None (all_faults (map (tree_meaning P.meaning) nodes.old.items))
         (all_faults (map (tree_meaning P.meaning) nodes.new.items))) }

@@ -31,7 +31,7 @@ impl Keyring for RawAes {
         }
     }
 
-    #[tactic(auto, using(crate::proofs::OneKey::wraps_one, crate::proofs::OneKey::wraps_none))]
+    #[tactic(auto, using(crate::proofs::OneKey::wraps_one, crate::proofs::OneKey::wraps_none, crate::proofs::OneKey::wraps_by_one, crate::proofs::OneKey::wraps_not))]
     fn on_encrypt(
         &mut self,
         alloc: Global,
@@ -52,7 +52,7 @@ impl Keyring for RawAes {
         Ok(Wrapped::new(key, entries))
     }
 
-    #[tactic(auto, using(crate::proofs::OneKey::opens_one))]
+    #[tactic(auto, using(crate::proofs::OneKey::opens_one, crate::proofs::OneKey::finds_by_one, crate::proofs::OneKey::finds_not))]
     fn on_decrypt(
         &mut self,
         alloc: Global,

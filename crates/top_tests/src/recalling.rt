@@ -38,8 +38,8 @@ impl<M: Manager> Manager for Recalling<M> {
     /// It is what the manager that it asks is, but for the last answers: it recalls the key of these
     /// materials, and this moment.
     ghost state = { λ r. record (M.state r.manager) {
-      gave = λ request now random made. r.gave ≡ Some (record { key = made.key; moment = now });
-      found = λ request now found. r.found ≡ Some (record { key = found.key; moment = now });
+      gave = λ _ request now random made. r.gave ≡ Some (record { key = made.key; moment = now });
+      found = λ _ request now found. r.found ≡ Some (record { key = found.key; moment = now });
     } };
 
     fn wraps(&self) -> u32 {

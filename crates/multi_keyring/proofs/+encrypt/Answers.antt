@@ -1,18 +1,21 @@
 use Rattle.std.proofs.Common.{rules, arith, ◌≡◌, ◌+◌, refl, sym, ap, ◌∙◌, subst, List, ◌++◌, None, map, min, slice_set}
-use Rattle.std.specs.Prelude.{is_some, IfOk, IfErr, OnOk}
+use Rattle.std.specs.Prelude.{is_some, Err, IfOk, IfErr, OnOk}
 use Rattle.std.specs.Option.{option_copied}
 use Rattle.std.proofs.lemmas.List.Elements.{All-append, All-same}
 use Rattle.edk_codec.specs.Entry.{IsEntry}
 use Rattle.keyring_trait.specs.Keyring.{KeyringMeaning, Wraps, WrapCause, refusal_with, wanted}
+use Rattle.keyring_trait.specs.declared.ring_refusals.RingError.TheVariants.{Refused, Memory}
 use Rattle.multi_keyring.specs.Forest.{tallest}
 use Rattle.multi_keyring.specs.TreeFalls.{members_fall}
 use Rattle.multi_keyring.specs.Nodes.{all_of}
-use Rattle.multi_keyring.specs.Tree.{all_faults, all_wraps, joined_members, meanings, tree_meaning}
+use Rattle.multi_keyring.specs.Tree.{all_faults, all_uses, all_wraps, joined_members, meanings, tree_meaning}
 use Rattle.multi_keyring.proofs.Meanings.{meanings-forest, row_is, joined_row}
 use Rattle.multi_keyring.proofs.Finding.{stays_same}
-use Rattle.multi_keyring.proofs.Appending.{begins, err_is, kept_here, cause_here, step_here}
+use Rattle.multi_keyring.proofs.Appending.{begins, err_is, kept_here, once_here, cause_here, step_here, done_by}
+use Rattle.multi_keyring.proofs.Using.{once_any, row_failed, wraps_failed}
+use Rattle.keyring_trait.proofs.Using.{once-weaker, unasked_once}
 use Rattle.multi_keyring.proofs.Unvisited.{still_unvisited}
-use Rattle.multi_keyring.proofs.Multis.{value_of, height_stays, value_height, multi_goes, split_is, generator_answers, generator_kept}
+use Rattle.multi_keyring.proofs.Multis.{value_of, height_stays, value_height, multi_goes, multi_wraps_by, split_is, children_answer, generator_answers, generator_by, generator_kept, generator_once}
 use Rattle.multi_keyring.proofs.+encrypt.Goals as goal
 
 pub tree::Members::encrypt-returns-in-Some-clause-stays :
@@ -78,6 +81,59 @@ tree::Multi::encrypt-returns-clause-cause g t c =
     (WrapCause (refusal_with (is_some c.args.key) m) m.faults (all_faults (map (tree_meaning g.P.Keyring.meaning) (all_of c.encrypt.new.self)))))
     (sym (joined_row g.P.Keyring.meaning c.self.inside.members c.args.self.now c.self.view_is)) c.encrypt.ensures.cause)
 
+pub tree::Multi::encrypt-returns-clause-used : goal.tree::Multi::encrypt-returns-clause-used
+tree::Multi::encrypt-returns-clause-used g t c =
+    multi_wraps_by g.P.Keyring.meaning c.self.inside.members c.encrypt.new.self c.args.self.now (value_of c.encrypt.new.self) c.args.context.now c.args.random.now (option_copied c.args.key)
+    c.encrypt.result c.self.view_is refl c.encrypt.ensures.used
+
+pub tree::Members::encrypt-returns-in-Some-clause-used :
+    goal.tree::Members::encrypt-returns-in-Some-clause-used
+tree::Members::encrypt-returns-in-Some-clause-used g t c =
+    let uses = all_uses (map (tree_meaning g.P.Keyring.meaning) (all_of c.args.self.now)) in
+    wraps_failed uses uses (min (all_wraps (map (tree_meaning g.P.Keyring.meaning) (all_of c.args.self.now))) 64) c.args.context.now c.args.random.now (option_copied c.args.key) (Err (Refused c.in-Some.refusal)) (Refused c.in-Some.refusal) refl
+    (unasked_once uses)
+
+pub tree::Members::encrypt-returns-then-wraps-gt-MAX_WRAPS-clause-used :
+    goal.tree::Members::encrypt-returns-then-wraps-gt-MAX_WRAPS-clause-used
+tree::Members::encrypt-returns-then-wraps-gt-MAX_WRAPS-clause-used g t c =
+    let uses = all_uses (map (tree_meaning g.P.Keyring.meaning) (all_of c.args.self.now)) in
+    wraps_failed uses uses (min (all_wraps (map (tree_meaning g.P.Keyring.meaning) (all_of c.args.self.now))) 64) c.args.context.now c.args.random.now (option_copied c.args.key) (Err (Memory)) (Memory) refl
+    (unasked_once uses)
+
+pub tree::Members::encrypt-returns-in_err-begun-in-Some-generator-clause-used :
+    goal.tree::Members::encrypt-returns-in_err-begun-in-Some-generator-clause-used
+tree::Members::encrypt-returns-in_err-begun-in-Some-generator-clause-used g t c =
+    wraps_failed _ _ _ c.args.context.now c.args.random.now _ c.from_residual.result c.in_err-begun-in-Some-generator.field-0.0 (search rules)
+    (generator_once g.P.Keyring.meaning c.args.self.now c.in-Some-generator.generator c.encrypt.new.self c.in-Some-generator.is (once_any _ _ _ c.encrypt.ensures.used))
+
+pub tree::Members::encrypt-returns-in_ok-begun-in-Some-generator-clause-used :
+    goal.tree::Members::encrypt-returns-in_ok-begun-in-Some-generator-clause-used
+tree::Members::encrypt-returns-in_ok-begun-in-Some-generator-clause-used g t c =
+    generator_by g.P.Keyring.meaning c.args.self.now c.in-Some-generator.generator c.encrypt.new.self c.wrap_with_all-in-Some-generator.new.nodes.items c.args.context.now c.args.random.now
+    c.split_at.result.0.now c.split_at.result.1.now (option_copied c.args.key) c.in_ok-begun-in-Some-generator.begun c.wrap_with_all-in-Some-generator.result c.in-Some-generator.is (search rules)
+    (ap option_copied c.in-None.is) (split_is _ c.args.random.now c.split_at.result.0.now c.split_at.result.1.now c.split_at.ensures.front c.split_at.ensures.back)
+    (omega (arith, c.split_at.ensures.front_len, c.entry_count.ensures.value)) c.wrap_with_all-in-Some-generator.ensures.key c.in_ok-begun-in-Some-generator.ensures.used
+    c.wrap_with_all-in-Some-generator.ensures.used
+
+pub wrapping::wrap_with_all-returns-in_err-append-clause-used :
+    goal.wrapping::wrap_with_all-returns-in_err-append-clause-used
+wrapping::wrap_with_all-returns-in_err-append-clause-used g t c =
+    row_failed _ _ _ c.args.context.now c.args.begun.key c.args.random.now c.args.begun.entries c.from_residual-in_err-append.result Memory (search rules)
+    (once_here g.P.Keyring.meaning c.args.nodes.now.items c.loop-i.nodes.items c.loop-i.i c.args.context.now c.args.begun.key c.args.random.now c.loop-i.rest.now c.args.begun.entries
+    c.loop-i.entries.items c.index_mut-node.result.now c.encrypt.new.self c.loop-i.invariant.1 (search rules) (search rules) (once_any _ _ _ c.encrypt.ensures.used))
+
+pub wrapping::wrap_with_all-returns-in_err-wrapped-clause-used :
+    goal.wrapping::wrap_with_all-returns-in_err-wrapped-clause-used
+wrapping::wrap_with_all-returns-in_err-wrapped-clause-used g t c =
+    row_failed _ _ _ c.args.context.now c.args.begun.key c.args.random.now c.args.begun.entries c.from_residual.result c.in_err-wrapped.field-0.0 (search rules)
+    (once_here g.P.Keyring.meaning c.args.nodes.now.items c.loop-i.nodes.items c.loop-i.i c.args.context.now c.args.begun.key c.args.random.now c.loop-i.rest.now c.args.begun.entries
+    c.loop-i.entries.items c.index_mut-node.result.now c.encrypt.new.self c.loop-i.invariant.1 (search rules) (search rules) (once_any _ _ _ c.encrypt.ensures.used))
+
+pub wrapping::wrap_with_all-returns-clause-used : goal.wrapping::wrap_with_all-returns-clause-used
+wrapping::wrap_with_all-returns-clause-used g t c =
+    done_by g.P.Keyring.meaning c.args.nodes.now.items c.loop-i.nodes.items c.loop-i.i c.args.context.now c.args.begun.key c.args.random.now c.loop-i.rest.now c.args.begun.entries
+    c.loop-i.entries.items c.new.result c.loop-i.invariant.1 (search rules) c.new.ensures.entries
+
 pub wrapping::wrap_with_all-loop-i-init : goal.wrapping::wrap_with_all-loop-i-init
 wrapping::wrap_with_all-loop-i-init g t c = (
   search rules,
@@ -117,7 +173,7 @@ wrapping::wrap_with_all-loop-i-preserved g t c = (
       (search rules) (search rules)
       (split_is _ c.loop-i.rest.now c.split_at.result.0.now c.split_at.result.1.now c.split_at.ensures.front c.split_at.ensures.back)
       (omega (arith, c.split_at.ensures.front_len, c.entry_count.ensures.value))
-      (record { kept = record { height = c.encrypt.ensures.height; goes = c.encrypt.ensures.goes }; wraps = rw c.loop-i.invariant.2 at c.in_ok-wrapped.ensures.wraps })
+      (record { kept = record { height = c.encrypt.ensures.height; goes = c.encrypt.ensures.goes }; wraps = rw c.loop-i.invariant.2 at c.in_ok-wrapped.ensures.wraps; once = once-weaker _ _ _ _ (λ keys by. by) c.in_ok-wrapped.ensures.used })
       (search rules),
   c.loop-i.invariant.2,
   All-same IsEntry c.append.new.self.items (c.loop-i.entries.items ++ c.into_parts-made.result.1.items) (search rules)

@@ -79,14 +79,15 @@ pub tree::Node::leaf_on_decrypt-returns-in-Raw-clause-answers :
 tree::Node::leaf_on_decrypt-returns-in-Raw-clause-answers g t c =
     rw c.in-Raw.is
     (one_answers (raw_meaning c.in-Raw.keyring) (raw_meaning c.on_decrypt.new.self) c.args.leaf c.args.context.now c.args.entries.now c.on_decrypt.result c.requires.first
-    (rw c.in-Raw.is at c.requires.last) c.on_decrypt.ensures.goes c.on_decrypt.ensures.opens c.on_decrypt.ensures.cause)
+    (rw c.in-Raw.is at c.requires.last) c.on_decrypt.ensures.goes c.on_decrypt.ensures.opens c.on_decrypt.ensures.cause c.on_decrypt.ensures.used)
 
 pub tree::Node::leaf_on_decrypt-returns-in-Handed-clause-answers :
     goal.tree::Node::leaf_on_decrypt-returns-in-Handed-clause-answers
 tree::Node::leaf_on_decrypt-returns-in-Handed-clause-answers g t c =
     rw c.in-Handed.is
     (one_answers (g.P.Keyring.meaning c.in-Handed.keyring) (g.P.Keyring.meaning c.on_decrypt-in-Handed.new.self) c.args.leaf c.args.context.now c.args.entries.now c.on_decrypt-in-Handed.result
-    c.requires.first (rw c.in-Handed.is at c.requires.last) c.on_decrypt-in-Handed.ensures.goes c.on_decrypt-in-Handed.ensures.opens c.on_decrypt-in-Handed.ensures.cause)
+    c.requires.first (rw c.in-Handed.is at c.requires.last) c.on_decrypt-in-Handed.ensures.goes c.on_decrypt-in-Handed.ensures.opens c.on_decrypt-in-Handed.ensures.cause
+    c.on_decrypt-in-Handed.ensures.used)
 
 pub tree::Node::leaf_on_decrypt-returns-in-Multi-clause-cause :
     goal.tree::Node::leaf_on_decrypt-returns-in-Multi-clause-cause

@@ -8,5 +8,5 @@ returns-clause-fits g c =
 
 pub returns-clause-last : goal.returns-clause-last
 returns-clause-last g c =
-    was_given ((g.M.Manager.state c.for_encryption.new.self).gave c.args.request.now c.args.now c.args.random.now) c.in_ok-made.made c.of_sealing.result c.in_ok-made.ensures.gave
+    was_given ((g.M.Manager.state c.for_encryption.new.self).gave (g.M.Manager.state c.args.inner.now).uses c.args.request.now c.args.now c.args.random.now) c.in_ok-made.made c.of_sealing.result c.in_ok-made.ensures.gave
     c.of_sealing.ensures.given

@@ -29,7 +29,7 @@ pub returns-in-Ok-clause-bears : goal.returns-in-Ok-clause-bears
 returns-in-Ok-clause-bears g c = rw (← c.self.view_is) (rw c.in-Ok.ensures.request at c.for_encryption.ensures.bears)
 
 pub returns-in-Ok-clause-gave : goal.returns-in-Ok-clause-gave
-returns-in-Ok-clause-gave g c = rw (← c.in-Ok.ensures.request) c.for_encryption.ensures.gave
+returns-in-Ok-clause-gave g c = rw (← c.self.view_is) (rw (← c.in-Ok.ensures.request) c.for_encryption.ensures.gave)
 
 -- where a key is absent, there are no materials, and nobody was asked
 pub returns-in-Err-Refusal-clause-gives : goal.returns-in-Err-Refusal-clause-gives
