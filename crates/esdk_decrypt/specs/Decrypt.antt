@@ -191,8 +191,7 @@ pub record DecryptManagerFails (asked : DecryptAsked) (input taken : SourceState
   pub last : APieceBehind (λ before. header asked.settings (start before) ≡ Wanting) bytes
 
 -- The manager answered so to the header of these bytes. They have no fault, more are wanted, and
--- they don't reach behind the unlocked header of a framed message, from where on memory isn't
--- wanting.
+-- they don't reach behind the unlocked header of a framed message.
 pub record MayLackMemory (asked : DecryptAsked) (bytes : List ℕ) : Type 0 where
   pub answer : Unlocking
   pub answered : AnswersTo asked.manager asked.settings asked.given bytes answer

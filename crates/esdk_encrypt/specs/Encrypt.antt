@@ -181,7 +181,7 @@ pub record EndsAfter (asked : EncryptAsked) (input taken : SourceState) (gains :
   pub started : CanBegin asked entropy spent drawn materials
   pub stops : StopsSo materials asked.size (drawn_id drawn) input taken gains error
 
--- A fill failed: nothing was drawn, taken or written, and the manager wasn't asked.
+-- A fill failed: nothing was drawn, taken or written, and the manager is as before.
 pub record EntropyFails (entropy spent : EntropyState) (untouched unasked : Type 0) : Type 0 where
   pub rose : Rose entropy.faults spent.faults
   pub kept : Keeps entropy.to_come spent.to_come

@@ -133,7 +133,8 @@ HasNoHeader settings old new name errors.Memory = new.faults ≡ old.faults
 -- ---- how it ends
 
 -- The answer is the manager's to the header of these bytes; what is extracted then was written, so
--- many bytes, and no fault ends it. No more was read than the header and the slots that are taken.
+-- many bytes, and no fault ends it. The shelf gave no more bytes than the header has, up to a piece
+-- behind it, and the slots that are taken.
 pub record WritesAll (asked : DecryptAsked) (range : ByteRange) (old new : ShelfState)
     (output put : SinkState) (written : ℕ) (bytes : List ℕ) : Type 0 where
   pub answer : Unlocking
@@ -145,7 +146,8 @@ pub record WritesAll (asked : DecryptAsked) (range : ByteRange) (old new : Shelf
   pub read : new.given ≤ old.given + most_bytes_read bytes asked.settings answer range
 
 -- The answer is the manager's to the header of these bytes; what is extracted then was written, and
--- this fault ends it. No more was read than the header and the slots that are taken.
+-- this fault ends it. The shelf gave no more bytes than the header has, up to a piece behind it or
+-- behind its fault, and the slots that are taken.
 pub record WritesBefore (asked : DecryptAsked) (range : ByteRange) (old new : ShelfState)
     (output put : SinkState) (fault : Fault) (bytes : List ℕ) : Type 0 where
   pub answer : Unlocking
@@ -156,7 +158,8 @@ pub record WritesBefore (asked : DecryptAsked) (range : ByteRange) (old new : Sh
   pub read : new.given ≤ old.given + most_bytes_read bytes asked.settings answer range
 
 -- The answer is the manager's to the header of these bytes, and a front of what is extracted then
--- was written. No more was read than the header and the slots that are taken.
+-- was written. The shelf gave no more bytes than the header has, up to a piece behind it, and the
+-- slots that are taken.
 pub record ExtractWritesFront (asked : DecryptAsked) (range : ByteRange) (old new : ShelfState)
     (output put : SinkState) (bytes : List ℕ) : Type 0 where
   pub answer : Unlocking
@@ -191,7 +194,7 @@ pub record ExtractSinkFails (asked : DecryptAsked) (range : ByteRange) (old new 
   pub writes : OnFile old new name (ExtractWritesFront asked range old new output put)
 
 -- The file has a header, and the manager failed when it was asked about it: its count of faults
--- rose. Nothing was written, and behind the header up to a piece was read.
+-- rose. Nothing was written, and the shelf gave no more than the header and a piece.
 pub record ExtractManagerFails (asked : DecryptAsked) (old new : ShelfState) (name : List ℕ)
     (unwritten : Type 0)
     : Type 0 where

@@ -121,6 +121,7 @@ module _ {A B : Type 0} (opened : A → ManagerNow) (sealed : B → ManagerNow) 
               verdict = ap (λ (j : Judged). j.verdict) here.judged_is ∙ whole;
               materials = m;
               has = record { given = mine.given.given; sound = mine.given.sound; begins = mine.given.begins };
+              room = rw (ap content here.judged_is) (has_room opened sealed now settings given size random fed.bytes old new before after output put resealer fed.reached m e);
               front = subst (λ (t : List ℕ). WritesBeyond output last (written_so_far m size (drawn_id random) t) (message_of m size (drawn_id random) t)) (sym (ap content here.judged_is))
                   (writes_beyond output put last (written_so_far m size (drawn_id random) (content (judged_now w))) _ gained failed);
             }),

@@ -65,10 +65,10 @@ enough_still c required demands given up enough demanded = record { ascending = 
 -- ---- the new message
 
 module _ (m : Written) (keys : List WrapKeyValue) (old : ManagerMeaning) (size : ℕ) (drawn : List ℕ) where
-  abbrev new_materials : EncMaterialsValue
+  abbrev pub new_materials : EncMaterialsValue
   new_materials = materials keys old size drawn m.context (only_of m.required m.context)
 
-  abbrev renewed : Written
+  abbrev pub renewed : Written
   renewed = record {
     text = m.text;
     context = m.context;
@@ -81,7 +81,7 @@ module _ (m : Written) (keys : List WrapKeyValue) (old : ManagerMeaning) (size :
 
   module _ (can : CanSeal keys old size drawn m.context (only_of m.required m.context) m.text) where
     -- it is written for each reader who has one of the new keys
-    for_new : (writers : List WrapKeyValue) (before : Reader) → IsWrittenFor before writers m → (reader : Reader) → ReadsNew m keys old.demands size reader → IsWrittenFor reader (active keys) renewed
+    pub for_new : (writers : List WrapKeyValue) (before : Reader) → IsWrittenFor before writers m → (reader : Reader) → ReadsNew m keys old.demands size reader → IsWrittenFor reader (active keys) renewed
     for_new writers before was reader reads = record {
       writable = writable keys old size drawn m.context (only_of m.required m.context) m.text can;
       unreserved = was.unreserved;

@@ -188,6 +188,7 @@ module _ (from to : Answering) (settings : Settings) (given : List KeyValue) (fi
       verdict = e.verdict;
       materials = e.materials;
       has = has_more drawn e.whole e.only e.materials e.has;
+      room = e.room;
       front = e.front;
     }),
   )

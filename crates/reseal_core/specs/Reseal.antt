@@ -265,8 +265,8 @@ pub record FrontFails (asked : Resealing) (drawn : List ℕ) (input taken : Sour
       (content (judged first asked.opening.settings (Unlocks whole only key))))))
       (first ++ opens.behind)
 
--- The write of the final frame failed: the whole input was taken and is a whole message, all of the
--- new one but that frame was written, and a front of it.
+-- The write of the final frame failed: the whole input was taken and is a whole message, whose
+-- content has room in the new one; all of this but that frame was written, and a front of it.
 pub record ResealFinalFails (asked : Resealing) (drawn : List ℕ) (input taken : SourceState)
     (output put : SinkState) : Type 0 where
   pub bytes : List ℕ
@@ -280,6 +280,8 @@ pub record ResealFinalFails (asked : Resealing) (drawn : List ℕ) (input taken 
   pub verdict : (judged bytes asked.opening.settings (Unlocks whole only key)).verdict ≡ Whole
   pub materials : EncMaterialsValue
   pub has : HasMaterials asked drawn whole only materials
+  pub room : length (content (judged bytes asked.opening.settings (Unlocks whole only key))) ≤
+      most_text asked.size
   pub front : WritesBeyond output put
       (written_so_far materials asked.size (drawn_id drawn)
       (content (judged bytes asked.opening.settings (Unlocks whole only key))))

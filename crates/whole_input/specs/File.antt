@@ -40,8 +40,8 @@ pub record IsLong (old new : ShelfState) (name : List ℕ) : Type 0 where
   pub most : new.given ≤ old.given + most_file + most_piece
   pub faults : new.faults ≡ old.faults
 
--- A read of the file failed, behind calls that read it in a row from its front and gave these
--- bytes, at most 1,048,576.
+-- The shelf failed, or tells that the file isn't there; the calls between read it in a row from its
+-- front and gave these bytes, at most 1,048,576.
 pub record IsUnread (old new : ShelfState) (name : List ℕ) : Type 0 where
   pub bytes : List ℕ
   pub read : ReadsRow name 0 old.calls new.calls bytes
