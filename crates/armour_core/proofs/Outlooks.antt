@@ -1,19 +1,21 @@
 -- What is to come of a text, over the steps of a reader of armour.
-use Rattle.std.proofs.Common.{◌≡◌, ℕ, zero, suc, ◌+◌, ◌-◌, ◌^◌, ◌%◌, ◌≤◌, ◌==◌, min, Bool, true, false, List, [], ◌∷◌, ◌++◌, length, take, drop, Option, Some, None, Ok, Err, refl, sym, subst, ap, ◌∙◌, arith, inl, inr, add-one, if◌then◌else◌}
+use Rattle.std.proofs.Common.{◌≡◌, ℕ, zero, suc, ◌+◌, ◌-◌, ◌^◌, ◌%◌, ◌≤◌, ◌==◌, nat_le, min, Bool, true, false, List, [], ◌∷◌, ◌++◌, length, take, drop, Option, Some, None, Ok, Err, refl, sym, subst, ap, ◌∙◌, arith, inl, inr, add-one, if◌then◌else◌}
 use Rattle.std.specs.Option.{option_map}
 use Rattle.std.proofs.lemmas.Bool.{cases_Bool}
 use Rattle.std.proofs.lemmas.List.{append_assoc, length-append, take-append-drop}
 use Rattle.std.proofs.lemmas.List.Elements.{filter-append}
+use Rattle.std.proofs.Math.Seq.{take-append-add}
+use Rattle.esdk_base.specs.Streams.{most_input}
 use Rattle.base64.specs.GeneralPurpose.{decoded_of}
 use Rattle.base64.specs.Engines.{standard}
 use Rattle.esdk_fields.specs.declared.faults.Fault.TheVariants.{BadArmour}
 use Rattle.armour_core.specs.declared.errors.ArmourError.{ArmourError}
 use Rattle.armour_core.specs.declared.errors.ArmourError.TheVariants.{Fault, Stopped}
 use Rattle.armour_core.specs.declared.text_end.TextEnd.{TextEnd}
-use Rattle.armour_core.specs.declared.text_end.TextEnd.TheVariants.{Bad}
+use Rattle.armour_core.specs.declared.text_end.TextEnd.TheVariants.{Bad, TooLong}
 use Rattle.armour_core.specs.declared.unarmour.Unarmour.{Unarmour}
-use Rattle.armour_core.specs.Outlook.{Outlook, bad_end, end_of, holds_some, open_of, open_on, read_on, read_out, with_front}
-use Rattle.armour_core.specs.Unarmoured.{GroupsRead, groups_behind, characters, group_then, groups_read, is_character, padding, unarmoured}
+use Rattle.armour_core.specs.Outlook.{Outlook, bad_end, end_of, holds_some, open_of, open_on, read_on, read_out, taken_front, text_outlook, with_front}
+use Rattle.armour_core.specs.Unarmoured.{GroupsRead, groups_behind, characters, group_then, group_count, groups_read, is_character, padding, unarmoured}
 use Rattle.armour_core.specs.Unarmouring.{UnarmouringValue, answer_where, bad_armour, bytes_with, gained, group_answer, group_stepped, text_with, used_in_piece}
 use Rattle.armour_core.specs.Stands.{OpenGroup, StandsReading, open_from, open_group}
 use Rattle.armour_core.proofs.Groups.{open_append, open_length, open_number, read_append, read_nil, read_no_more}
@@ -241,3 +243,28 @@ step_bad u piece more long error number goes answer is =
     let same : bad_end bad.number ≡ Bad number = let e = sym bad.is ∙ is in let n : min bad.number (2 ^ 64 - 1) ≡ number = cc e in ap (λ (k : ℕ). let x : TextEnd = Bad k in x) n in
     ap (λ (x : List ℕ). read_out o x long) all ∙ outlook_bad o t (drop (used_in_piece v piece) piece ++ more) long bad.number here
     ∙ ap (λ (b : List ℕ). let l : Outlook = record { bytes = b; end = bad_end bad.number } in l) none ∙ ap (λ (e : TextEnd). let l : Outlook = record { bytes = []; end = e } in l) same
+
+-- ---- a whole text
+
+-- with no bad group, where more makes it too long
+pub good_text : (text more : List ℕ) → length text ≤ 2 ^ 62 → (text_outlook (text ++ more)).end ≡ TooLong → (unarmoured text).bad ≡ None
+unfolding text_outlook
+good_text text more few long = by_bad (unarmoured text).bad refl
+  where
+    rest : List ℕ
+    rest = take (most_input - length text) more
+
+    front : taken_front (text ++ more) ≡ text ++ rest
+    front =
+        let size : most_input ≡ length text + (most_input - length text) = omega (arith, few) in
+        ap (λ (n : ℕ). take n (text ++ more)) size ∙ take-append-add text more (most_input - length text)
+
+    by_bad : (bad : Option ℕ) → (unarmoured text).bad ≡ bad → bad ≡ None
+    by_bad None is = refl
+    by_bad (Some number) is =
+        let same : read (text ++ rest) ≡ read text = ap (groups_read 1 false) (filter-append is_character text rest) ∙ read_no_more 1 number false (characters text) (characters rest) (sym (bad_read text) ∙ is) in
+        let bad : (unarmoured (taken_front (text ++ more))).bad ≡ Some number = ap (λ (t : List ℕ). (unarmoured t).bad) front ∙ bad_read (text ++ rest) ∙ ap (λ (r : GroupsRead). r.bad) same ∙ sym (bad_read text) ∙ is in
+        let whole : List ℕ = taken_front (text ++ more) in
+        let end : end_of (Some number) (nat_le most_input (length (text ++ more))) (unarmoured whole).short (group_count whole) ≡ TooLong =
+        sym (ap (λ (b : Option ℕ). end_of b (nat_le most_input (length (text ++ more))) (unarmoured whole).short (group_count whole)) bad) ∙ long in
+        cc end

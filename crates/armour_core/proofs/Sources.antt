@@ -14,7 +14,7 @@ use Rattle.armour_core.specs.declared.text_end.TextEnd.{TextEnd}
 use Rattle.armour_core.specs.declared.text_end.TextEnd.TheVariants.{Whole}
 use Rattle.armour_core.specs.Outlook.{Outlook, with_front}
 use Rattle.armour_core.specs.ReaderLaws.{gives_behind, reads_more, reads_none}
-use Rattle.armour_core.specs.ReaderOutlook.{Awaits, EndsAs, FailsAs, IsWanted, KeepsOutlook, Outlasts, ArmourReadsOn, TakesPiece, coming, gives, pending, reader_outlook, text_room, told_end, text_turns_left}
+use Rattle.armour_core.specs.ReaderOutlook.{Awaits, EndsAs, FailsAs, IsReadSoFar, IsWanted, KeepsOutlook, Outlasts, ArmourReadsOn, TakesPiece, coming, gives, pending, reader_outlook, text_room, told_end, text_turns_left}
 
 -- ---- what is kept
 
@@ -42,6 +42,7 @@ hands_on input s t front handed pieces goes whole = record {
   end = λ end is. same_end input.left s t (λ text. ap (λ (o : Outlook). o.end) (handed text)) ∙ is;
   over = λ over. (refl, λ none. over (goes none), refl);
   seen = λ on is. let e = sym on ∙ whole is in cc e;
+  good = inl refl;
   all = λ more may. handed more;
 }
 
@@ -56,6 +57,7 @@ awaits_same before now r s t k zero awaits same pieces goes whole = record {
     end = λ end is. same_end now.left s t (λ text. ap (λ (o : Outlook). o.end) (sym (same text))) ∙ awaits.reads.end end is;
     over = λ over. let o = awaits.reads.over over in (o.0, λ none. o.1 (goes none), o.2);
     seen = λ on is. awaits.reads.seen on (whole is);
+    good = awaits.reads.good;
     all = λ more may. awaits.reads.all more (λ over. may (λ none. over (goes none))) ∙ sym (same more);
   };
   last = awaits.last;
@@ -130,7 +132,7 @@ read_outlasts before now r s t front given gave k n came comes ended ends awaits
 
 -- one that failed
 pub failed_outlasts : (before now : SourceState) (r s : ArmourReader) (given gave k n : ℕ) (came comes : List ℕ) (ended ends : Bool) → Awaits before now r s k → FailsAs before now k n → gave ≡ given → given ≤ 2 ^ 64 - 1
-    → (k ≡ 0 → gives s [] ≡ 0) → comes ≡ came → ends ≡ ended → Outlasts before now r s given gave k n came comes ended ends
+    → (k ≡ 0 → IsReadSoFar s) → comes ≡ came → ends ≡ ended → Outlasts before now r s given gave k n came comes ended ends
 failed_outlasts before now r s given gave k n came comes ended ends awaits fails same few spent none_came none_seen = record {
   handed = [];
   given = omega (arith, same, few);
@@ -139,7 +141,7 @@ failed_outlasts before now r s given gave k n came comes ended ends awaits fails
   reads = awaits.reads;
   wanted = elim (cases_lt 0 k) [
     | inl stuck ↦ inl (awaits.stuck (omega (arith, stuck))).1
-    | inr first ↦ (let front = gives_behind before now r s [] awaits.reads in let none = spent (omega (arith, first)) in inr (inl (omega (arith, front, none))))
+    | inr first ↦ (let front = gives_behind before now r s [] awaits.reads in let none = (spent (omega (arith, first))).0 in inr (inl (omega (arith, front, none))))
   ];
   faults = fails;
   stuck = λ some. (awaits.stuck some).0;

@@ -1,10 +1,10 @@
 -- A reader that takes a piece more of its text.
-use Rattle.std.proofs.Common.{◌≡◌, ◌⊎◌, ℕ, ◌+◌, ◌<◌, ◌≤◌, ◌==◌, nat_le, Bool, true, false, List, [], ◌++◌, length, take, drop, Option, Some, None, Err, refl, sym, subst, ap, ◌∙◌, arith, inl, inr}
+use Rattle.std.proofs.Common.{◌≡◌, ◌⊎◌, ℕ, zero, suc, ◌+◌, ◌<◌, ◌≤◌, ◌==◌, nat_le, Bool, true, false, List, [], ◌∷◌, ◌++◌, length, take, drop, Option, Some, None, Err, refl, sym, subst, ap, ◌∙◌, arith, inl, inr}
 use Rattle.std.specs.Option.{option_map}
 use Rattle.std.specs.Io.KnownBytes.{Consumes, IsAtEnd}
 use Rattle.std.proofs.lemmas.Bool.{cases_lt, eqb-true, le-leb, lt-leb}
 use Rattle.std.specs.Prelude.{IfSome}
-use Rattle.std.proofs.lemmas.List.{drop_all, length-append}
+use Rattle.std.proofs.lemmas.List.{drop_all, length-append, take_all}
 use Rattle.std.proofs.Math.Seq.{drop-nil, take-append-add, take-nil}
 use Rattle.esdk_base.specs.Streams.{SourceState, most_input}
 use Rattle.whole_input.specs.Pieces.{NextPiece, PiecesValue, most_piece}
@@ -16,8 +16,10 @@ use Rattle.armour_core.specs.declared.reader.ArmourReader.{ArmourReader}
 use Rattle.armour_core.specs.declared.text_end.TextEnd.{TextEnd}
 use Rattle.armour_core.specs.declared.text_end.TextEnd.TheVariants.{TooLong, Whole}
 use Rattle.armour_core.specs.declared.unarmour.Unarmour.{Unarmour}
-use Rattle.armour_core.specs.Outlook.{Outlook, open_of, read_out, with_front}
-use Rattle.armour_core.specs.ReaderOutlook.{EndsAs, TextIsOver, TextIsSpent, KeepsOutlook, TakesPiece, coming, gives, pending, reader_outlook, text_room, told_end, unread}
+use Rattle.armour_core.specs.Outlook.{Outlook, end_of, holds_some, open_of, open_on, read_on, read_out, with_front}
+use Rattle.armour_core.specs.Stands.{OpenGroup}
+use Rattle.armour_core.specs.Unarmoured.{characters}
+use Rattle.armour_core.specs.ReaderOutlook.{EndsAs, GroupsAreGood, IsReadSoFar, TextIsOver, TextIsSpent, KeepsOutlook, TakesPiece, coming, gives, pending, reader_outlook, text_room, told_end, unread}
 use Rattle.armour_core.proofs.Readers.{no_more}
 
 -- ---- what a source tells
@@ -41,8 +43,8 @@ end_kept (Some text) before now r new is keeps end told =
 -- what a reader takes by one read that goes on, where the same is to come behind it
 pub takes_as : (before now : SourceState) (r new : ArmourReader) (text : List ℕ) → Came before now text → length text ≤ most_piece → new.pieces.taken ≡ r.pieces.taken + length text → KeepsOutlook before now r new
     → r.ending ≡ None → (new.ending ≡ Some Whole → now.ended ≡ true) → ((more : List ℕ) → (TextIsOver new → now.ended ≡ true → more ≡ []) → reader_outlook r (text ++ more) ≡ reader_outlook new more)
-    → TakesPiece before now r new
-takes_as before now r new text came few taken keeps goes seen all = record {
+    → GroupsAreGood r [] → TakesPiece before now r new
+takes_as before now r new text came few taken keeps goes seen all good = record {
   reads = record {
     text = text;
     came = came;
@@ -50,6 +52,7 @@ takes_as before now r new text came few taken keeps goes seen all = record {
     end = end_kept before.left before now r new refl keeps;
     over = λ over. absurd (over goes);
     seen = λ _ whole. seen whole;
+    good = inr (record { before = []; piece = text; all = refl; few = few; was = good });
     all = all;
   };
   few = few;
@@ -68,6 +71,36 @@ unfolding reader_outlook
 spent_outlook r text spent goes =
     ap (λ (b : List ℕ). with_front b (coming r.ending r text)) spent.handed ∙ ap (λ (e : Option TextEnd). coming e r text) goes
     ∙ ap (λ (x : List ℕ). read_out (open_of r.unarmour) (x ++ take (text_room r) text) (nat_le (text_room r) (length text))) (spent.read goes)
+
+-- line feeds
+feeds : ℕ → List ℕ
+feeds zero = []
+feeds (suc n) = 10 ∷ feeds n
+
+feeds_long : (n : ℕ) → length (feeds n) ≡ n
+unfolding feeds
+feeds_long zero = refl
+feeds_long (suc n) = let one = feeds_long n in omega (arith, one)
+
+feeds_empty : (n : ℕ) → characters (feeds n) ≡ []
+unfolding feeds
+feeds_empty zero = refl
+feeds_empty (suc n) = feeds_empty n
+
+-- no group is bad of what was read
+pub spent_good : (r : ArmourReader) → TextIsSpent r → r.ending ≡ None → GroupsAreGood r []
+unfolding read_out
+spent_good r spent goes =
+    let room : ℕ = text_room r in
+    let o : OpenGroup = open_of r.unarmour in
+    let ends_long : (text : List ℕ) → TextEnd = λ text. (read_out o text true).end in
+    let size = feeds_long room in
+    let long : nat_le room (length (feeds room)) ≡ true = le-leb room (length (feeds room)) (omega (arith, size)) in (
+      feeds room,
+      ap (λ (l : Outlook). l.end) (spent_outlook r (feeds room) spent goes) ∙ ap (λ (b : Bool). (read_out o (take room (feeds room)) b).end) long
+          ∙ ap ends_long (take_all room (feeds room) (omega (arith, size)))
+          ∙ ap (λ (cs : List ℕ). end_of (read_on o cs).bad true (holds_some (open_on o cs)) (open_on o cs).number) (feeds_empty room) ∙ ap (λ (l : Outlook). l.end) (no_more r.unarmour true),
+    )
 
 -- nothing is to come of no more text
 pub spent_gives : (r : ArmourReader) → TextIsSpent r → gives r [] ≡ 0
@@ -177,7 +210,7 @@ pub piece_takes : (before now : SourceState) (r new : ArmourReader) (piece : Lis
     → length piece ≤ most_piece → Came before now piece → TakesPiece before now r new
 piece_takes before now r new piece spent goes same on is taken few came =
     takes_as before now r new piece came few taken (piece_keeps before now r new piece spent goes same on is taken came) goes
-    (λ whole. let e = sym on ∙ whole in cc e) (λ more _. sym (piece_taken r new piece (piece ++ more) more spent goes same on is taken refl))
+    (λ whole. let e = sym on ∙ whole in cc e) (λ more _. sym (piece_taken r new piece (piece ++ more) more spent goes same on is taken refl)) (spent_good r spent goes)
 
 -- ---- by how a call for the next piece ended
 
@@ -195,8 +228,9 @@ module _ (before now : SourceState) (r new : ArmourReader) (end : End) where
       let n = failed_next new.pieces is next in
       piece_takes before now r new [] spent goes same on (ap (drop new.at) none ∙ drop-nil new.at) (omega (arith, n.3)) (omega arith) n.0
 
-  pub failed_spent : new.pieces.piece ≡ [] → TextIsSpent r → SameReading r new → gives new [] ≡ 0
-  failed_spent none spent same = spent_gives new (record { handed = none_pending r new same spent.handed; read = λ _. ap (drop new.at) none ∙ drop-nil new.at })
+  pub failed_spent : new.pieces.piece ≡ [] → TextIsSpent r → SameReading r new → new.ending ≡ None → IsReadSoFar new
+  failed_spent none spent same on =
+      let here : TextIsSpent new = record { handed = none_pending r new same spent.handed; read = λ _. ap (drop new.at) none ∙ drop-nil new.at } in (spent_gives new here, spent_good new here on)
 
   long_next : (v : PiecesValue) → end ≡ ends.TooLong → NextPiece {T = Unit {0}} r.pieces.taken before now v (Err end) → NextPiece {T = Unit {0}} r.pieces.taken before now v (Err ends.TooLong)
   long_next v is next = subst (λ (e : End). NextPiece {T = Unit {0}} r.pieces.taken before now v (Err e)) is next
@@ -208,7 +242,7 @@ module _ (before now : SourceState) (r new : ArmourReader) (end : End) where
   long_takes is next spent goes same ending =
       let n = long_next new.pieces is next in
       takes_as before now r new [] (came_still before now n.0) (omega arith) (omega (arith, n.2)) (long_keeps is next spent goes same ending) goes
-      (λ whole. let e = sym ending ∙ whole in cc e) (λ more _. sym (too_long_outlook r new spent goes same ending n.1 more))
+      (λ whole. let e = sym ending ∙ whole in cc e) (λ more _. sym (too_long_outlook r new spent goes same ending n.1 more)) (spent_good r spent goes)
 
   seen_next : (v : PiecesValue) → end ≡ ends.Seen → NextPiece {T = Unit {0}} r.pieces.taken before now v (Err end) → NextPiece {T = Unit {0}} r.pieces.taken before now v (Err ends.Seen)
   seen_next v is next = subst (λ (e : End). NextPiece {T = Unit {0}} r.pieces.taken before now v (Err e)) is next
@@ -222,4 +256,4 @@ module _ (before now : SourceState) (r new : ArmourReader) (end : End) where
       let n = seen_next v is next in
       let taken : new.pieces.taken ≡ r.pieces.taken = ap (λ (p : PiecesValue). p.taken) same ∙ n.4 in
       takes_as before now r new [] n.0 (omega arith) (omega (arith, taken)) (seen_keeps v is next spent goes ended) goes
-      (λ _. n.5) (λ more may. sym (end_outlook r new spent goes ended n.3 more more (may over n.5)))
+      (λ _. n.5) (λ more may. sym (end_outlook r new spent goes ended n.3 more more (may over n.5))) (spent_good r spent goes)

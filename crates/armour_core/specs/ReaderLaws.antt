@@ -1,18 +1,20 @@
 -- A reader of a source's text keeps the laws of sources, which an `impl` can cite from specs/
 -- alone.
 use Rattle.std.proofs.Common.{◌≡◌, ◌⊎◌, ℕ, ◌+◌, ◌-◌, ◌^◌, ◌≤◌, Bool, true, List, [], ◌∷◌, ◌++◌}
-use Rattle.std.proofs.Common.{length, Option, Some, None, refl, sym, ap, ◌∙◌, arith, inl, inr}
-use Rattle.std.proofs.Common.{append_assoc}
+use Rattle.std.proofs.Common.{length, Option, Some, None, refl, sym, subst, ap, ◌∙◌, arith, inl}
+use Rattle.std.proofs.Common.{inr, append_assoc}
 use Rattle.std.proofs.lemmas.List.{append-nil, length-append}
 use Rattle.std.proofs.lemmas.Bool.{cases_lt}
 use Rattle.whole_input.proofs.Coming.{came_more, came_none}
+use Rattle.whole_input.specs.Pieces.{APieceBehind}
 use Rattle.esdk_base.specs.Streams.{SourceState}
 use Rattle.armour_core.specs.declared.reader.ArmourReader.{ArmourReader}
 use Rattle.armour_core.specs.declared.text_end.TextEnd.{TextEnd}
 use Rattle.armour_core.specs.declared.text_end.TextEnd.TheVariants.{Whole}
 use Rattle.armour_core.specs.Outlook.{Outlook, with_front}
 use Rattle.armour_core.specs.ReaderOutlook.{EndsAs, FailsAs, TextIsOver, IsWanted, Outlasts}
-use Rattle.armour_core.specs.ReaderOutlook.{ArmourReadsOn, coming, gives, reader_outlook}
+use Rattle.armour_core.specs.ReaderOutlook.{ArmourReadsOn, GroupsAreGood, IsReadSoFar, coming}
+use Rattle.armour_core.specs.ReaderOutlook.{gives, reader_outlook}
 
 -- ---- text that is read on
 
@@ -36,6 +38,7 @@ reads_none input r = record {
   end = λ end is. is;
   over = λ over. (refl, over, refl);
   seen = λ goes whole. let e = sym goes ∙ whole in cc e;
+  good = inl refl;
   all = λ more may. refl;
 }
 
@@ -55,6 +58,66 @@ seen_more a b c r s t h k one two goes whole = by_end s.ending refl
         ap (λ (i : SourceState). i.ended) over.2
         ∙ one.seen goes (is ∙ ap (λ (e : TextEnd). Some e) same)
 
+-- good groups behind those that were read
+pub good_behind : (a b : SourceState) (r s : ArmourReader) (h : List ℕ)
+    (reads : ArmourReadsOn a b r s h)
+    → s.ending ≡ None → (text : List ℕ) → GroupsAreGood s text
+    → GroupsAreGood r (reads.text ++ text)
+good_behind a b r s h reads goes text good = (
+  good.0,
+  ap (λ (x : List ℕ). (reader_outlook r x).end) (append_assoc reads.text text good.0)
+      ∙ ap (λ (o : Outlook). o.end) (reads.all (text ++ good.0) (λ over _. absurd (over goes)))
+      ∙ good.1,
+)
+
+-- no group is bad before, where none is behind
+pub good_before : (a b : SourceState) (r s : ArmourReader) (h : List ℕ)
+    (reads : ArmourReadsOn a b r s h) → GroupsAreGood s [] → GroupsAreGood r reads.text
+good_before a b r s h reads good = by_end s.ending refl
+  where
+    by_end : (e : Option TextEnd) → s.ending ≡ e → GroupsAreGood r reads.text
+    by_end None is = (
+      good.0,
+      ap (λ (o : Outlook). o.end) (reads.all good.0 (λ over _. absurd (over is))) ∙ good.1,
+    )
+    by_end (Some end) is = (
+      [],
+      ap (λ (o : Outlook). o.end) (reads.all [] (λ _ _. refl)) ∙ ends_so s end [] is
+          ∙ sym (ends_so s end good.0 is) ∙ good.1,
+    )
+
+pub good_more : (a b c : SourceState) (r s t : ArmourReader) (h k : List ℕ)
+    (one : ArmourReadsOn a b r s h) (two : ArmourReadsOn b c s t k)
+    → (one.text ++ two.text ≡ []) ⊎ APieceBehind (GroupsAreGood r) (one.text ++ two.text)
+good_more a b c r s t h k one two = by_end s.ending refl two.good
+  where
+    before : two.text ≡ [] → (one.text ≡ []) ⊎ APieceBehind (GroupsAreGood r) one.text
+        → (one.text ++ two.text ≡ []) ⊎ APieceBehind (GroupsAreGood r) (one.text ++ two.text)
+    before none (inl empty) =
+        inl (ap (λ (x : List ℕ). one.text ++ x) none ∙ append-nil one.text ∙ empty)
+    before none (inr last) = inr (record {
+      before = last.before;
+      piece = last.piece;
+      all = ap (λ (x : List ℕ). one.text ++ x) none ∙ append-nil one.text ∙ last.all;
+      few = last.few;
+      was = last.was;
+    })
+
+    by_end : (e : Option TextEnd) → s.ending ≡ e
+        → (two.text ≡ []) ⊎ APieceBehind (GroupsAreGood s) two.text
+        → (one.text ++ two.text ≡ []) ⊎ APieceBehind (GroupsAreGood r) (one.text ++ two.text)
+    by_end e is (inl none) = before none one.good
+    by_end (Some end) is (inr last) =
+        before (two.over (λ none. let e = sym is ∙ none in cc e)).0 one.good
+    by_end None is (inr last) = inr (record {
+      before = one.text ++ last.before;
+      piece = last.piece;
+      all = ap (λ (x : List ℕ). one.text ++ x) last.all
+          ∙ sym (append_assoc one.text last.before last.piece);
+      few = last.few;
+      was = good_behind a b r s h one is last.before last.was;
+    })
+
 unfoldable pub reads_more : (a b c : SourceState) (r s t : ArmourReader) (h k : List ℕ)
     → ArmourReadsOn a b r s h → ArmourReadsOn b c s t k → ArmourReadsOn a c r t (h ++ k)
 reads_more a b c r s t h k one two = record {
@@ -67,6 +130,7 @@ reads_more a b c r s t h k one two = record {
       let second = two.over first.1 in
       (ap (λ (x : List ℕ). x ++ two.text) first.0 ∙ second.0, second.1, second.2 ∙ first.2);
   seen = seen_more a b c r s t h k one two;
+  good = good_more a b c r s t h k one two;
   all = λ more may.
       let first = one.all (two.text ++ more) (λ over ended.
       let none = two.over over in
@@ -243,8 +307,8 @@ outlasts_more a b c r s t f g h k m n x y z u v w one two = record {
       two.stuck (omega (arith, some, one.faults.later)) ∙ one.stuck some;
   spent = λ none some. elim (cases_lt 0 m) [
     | inl first ↦
-        ap (λ (x : ArmourReader). gives x []) (two.stuck (omega (arith, first)))
-        ∙ one.spent none (omega (arith, first))
+        subst IsReadSoFar (sym (two.stuck (omega (arith, first))))
+        (one.spent none (omega (arith, first)))
     | inr later ↦ two.spent (omega (arith, later)) some
   ];
 }

@@ -9,7 +9,7 @@ use Rattle.whole_input.specs.Pieces.{APieceBehind, most_piece}
 use Rattle.whole_input.specs.Taken.{Came}
 use Rattle.armour_core.specs.declared.reader.ArmourReader.{ArmourReader}
 use Rattle.armour_core.specs.declared.text_end.TextEnd.{TextEnd}
-use Rattle.armour_core.specs.declared.text_end.TextEnd.TheVariants.{Whole}
+use Rattle.armour_core.specs.declared.text_end.TextEnd.TheVariants.{TooLong, Whole}
 use Rattle.armour_core.specs.Outlook.{Outlook, open_of, read_out, with_front}
 
 -- the text of the last piece that wasn't read yet
@@ -58,10 +58,15 @@ gives r text = length (reader_outlook r text).bytes
 abbrev pub TextIsOver : ArmourReader → Type 0
 TextIsOver r = r.ending ≢ None
 
+-- No group of this text is bad: there is a text that makes it too long, where that follows.
+abbrev pub GroupsAreGood : ArmourReader → List ℕ → Type 0
+GroupsAreGood r text = (more : List ℕ) × ((reader_outlook r (text ++ more)).end ≡ TooLong)
+
 -- The reader took more of the same text, and handed these bytes on. Whatever follows what came, the
 -- bytes of both are these and those that are still to come, and the end is the same; nothing
 -- follows where the reader is over and the source saw the end. Behind the end that it saw the
--- reader takes nothing, and it calls a text whole only where the source saw the end of that.
+-- reader takes nothing, and it calls a text whole only where the source saw the end of that. No
+-- group was bad before it took the last piece.
 pub record ArmourReadsOn (before now : SourceState) (old new : ArmourReader)
     (handed : List ℕ) : Type 0 where
   pub text : List ℕ
@@ -70,6 +75,7 @@ pub record ArmourReadsOn (before now : SourceState) (old new : ArmourReader)
   pub end : (end : TextEnd) → told_end before old ≡ Some end → told_end now new ≡ Some end
   pub over : TextIsOver old → (text ≡ []) × TextIsOver new × (now ≡ before)
   pub seen : old.ending ≡ None → new.ending ≡ Some Whole → now.ended ≡ true
+  pub good : (text ≡ []) ⊎ APieceBehind (GroupsAreGood old) text
   pub all : (more : List ℕ) → (TextIsOver new → now.ended ≡ true → more ≡ [])
       → reader_outlook old (text ++ more) ≡ with_front handed (reader_outlook new more)
 
@@ -92,6 +98,10 @@ abbrev pub IsWanted : (old : ArmourReader) → (text : List ℕ) → (handed : �
 IsWanted old text handed = (gives old text ≡ handed)
     ⊎ APieceBehind (λ front. gives old front < handed) text
 
+-- all bytes that the text gives were handed on, and no group of it is bad
+abbrev pub IsReadSoFar : ArmourReader → Type 0
+IsReadSoFar r = (gives r [] ≡ 0) × GroupsAreGood r []
+
 -- how many turns a loop has at the most that takes text: two for each byte, and one for the end
 abbrev pub text_turns_left : ArmourReader → ℕ
 text_turns_left r = 2 * text_room r + (if is_none r.ending then 1 else 0)
@@ -111,8 +121,8 @@ EndsAs new old_ended new_ended =
     new_ended ≡ true → (old_ended ≡ true) ⊎ (TextIsOver new × (gives new [] ≡ 0))
 
 -- Since the first moment more of the same text was taken, and no more than the bytes that were
--- handed on called for: those that came. Once a read failed, nothing more is taken, and all bytes
--- that the text gives were handed on.
+-- handed on called for: those that came. Once a read failed, nothing more is taken, all bytes that
+-- the text gives were handed on, and no group of it is bad.
 pub record Outlasts (before now : SourceState) (old new : ArmourReader)
     (old_given new_given old_faults new_faults : ℕ) (old_came new_came : List ℕ)
     (old_ended new_ended : Bool) : Type 0 where
@@ -124,4 +134,4 @@ pub record Outlasts (before now : SourceState) (old new : ArmourReader)
   pub wanted : (reads.text ≡ []) ⊎ IsWanted old reads.text (length handed)
   pub faults : FailsAs before now old_faults new_faults
   pub stuck : 1 ≤ old_faults → new ≡ old
-  pub spent : old_faults ≡ 0 → 1 ≤ new_faults → gives new [] ≡ 0
+  pub spent : old_faults ≡ 0 → 1 ≤ new_faults → IsReadSoFar new

@@ -35,8 +35,8 @@ pub(crate) struct ArmourReader {
 
 impl ArmourReader {
     ghost use Rattle.armour_core.specs.Outlook.{open_of, read_out, text_outlook, with_front};
-    ghost use Rattle.armour_core.specs.ReaderOutlook.{TextIsSpent, KeepsOutlook, TakesPiece, gives};
-    ghost use Rattle.armour_core.specs.ReaderOutlook.{pending, reader_outlook};
+    ghost use Rattle.armour_core.specs.ReaderOutlook.{IsReadSoFar, KeepsOutlook, TakesPiece};
+    ghost use Rattle.armour_core.specs.ReaderOutlook.{TextIsSpent, pending, reader_outlook};
 
     /// Nothing is taken yet through these pieces.
     pub(crate) fn new(pieces: Pieces) -> ArmourReader
@@ -248,13 +248,13 @@ impl ArmourReader {
     }
 
     /// Takes the next piece of the text from the source, by one read, or sees how the text ends.
-    /// After a read that failed no bytes are to be handed on.
+    /// After a read that failed no bytes are to be handed on, and no group was bad.
     pub(crate) fn take_text<S: Source>(&mut self, input: &mut S) -> Result<(), Failed>
         requires spent { TextIsSpent self.old }
         requires goes { self.old.ending ≡ None }
         ensures outlook { KeepsOutlook (S.state input.old) (S.state input.new) self.old self.new }
         ensures takes { TakesPiece (S.state input.old) (S.state input.new) self.old self.new }
-        ensures spent { OnErr result (gives self.new [] ≡ 0) }
+        ensures spent { OnErr result (IsReadSoFar self.new) }
         ensures same { OnOk result ((S.state input.new).faults ≡ (S.state input.old).faults) }
         ensures failed { OnErr result (Rose (S.state input.old).faults (S.state input.new).faults) }
         ensures falls { OnOk result (self.new.ending ≡ None

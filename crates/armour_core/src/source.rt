@@ -22,7 +22,8 @@ use whole_input::Pieces;
 ///
 /// The source tells its bytes where the text's source tells. A read fails where one of the text
 /// does. From then on each read into a buffer with room fails, and no more of the text is taken:
-/// all bytes that it gave so far were handed on then. Each failure is counted here.
+/// all bytes that it gave so far were handed on then, and none of its groups is bad. Each failure
+/// is counted here.
 #[derive(Drop)]
 pub struct UnarmouredSource<'a, S> {
     text: &'a mut S,
@@ -37,8 +38,8 @@ pub struct UnarmouredSource<'a, S> {
 
 impl<'a, S: Source> UnarmouredSource<'a, S> {
     ghost use Rattle.armour_core.specs.Outlook.{text_outlook};
-    ghost use Rattle.armour_core.specs.ReaderOutlook.{Awaits, FailsAs, KeepsOutlook, gives};
-    ghost use Rattle.armour_core.specs.ReaderOutlook.{pending, reader_outlook, told_end};
+    ghost use Rattle.armour_core.specs.ReaderOutlook.{Awaits, FailsAs, IsReadSoFar, KeepsOutlook};
+    ghost use Rattle.armour_core.specs.ReaderOutlook.{gives, pending, reader_outlook, told_end};
 
     /// The bytes that this text gives. Its buffer of 65,536 bytes is taken now, and nothing is read
     /// yet. Fails only where memory runs out.
@@ -103,7 +104,8 @@ impl<'a, S: Source> UnarmouredSource<'a, S> {
     }
 
     /// Takes text until some bytes come or it is seen how the text ends. Fails where a read of the
-    /// text fails, and where one did before; then it takes nothing.
+    /// text fails, and where one did before; then it takes nothing. It takes no more behind a piece
+    /// with a bad group.
     pub fn await_some(&mut self) -> Result<(), Failed>
         ensures same { self.new.text.ghost_name ≡ self.old.text.ghost_name }
         ensures outlook { KeepsOutlook (S.state self.old.text.now) (S.state self.new.text.now)
@@ -116,7 +118,7 @@ impl<'a, S: Source> UnarmouredSource<'a, S> {
         ensures whole { OnOk result (self.old.faults ≡ 0) }
         ensures some { OnOk result (self.new.reader.ending ≡ None
             → 1 ≤ length (pending self.new.reader)) }
-        ensures spent { OnErr result (self.old.faults ≡ 0 → gives self.new.reader [] ≡ 0) }
+        ensures spent { OnErr result (self.old.faults ≡ 0 → IsReadSoFar self.new.reader) }
         ensures given { self.new.given ≡ self.old.given }
         ensures came { self.new.came.bytes ≡ self.old.came.bytes }
         ensures ended { self.new.ended ≡ self.old.ended }
@@ -150,7 +152,7 @@ impl<'a, S: Source> UnarmouredSource<'a, S> {
             ((S.state self.new.text.now).faults ≡ (S.state self.old.text.now).faults) }
         ensures fails { OnErr result
             (Rose (S.state self.old.text.now).faults (S.state self.new.text.now).faults) }
-        ensures spent { OnErr result (gives self.new.reader [] ≡ 0) }
+        ensures spent { OnErr result (IsReadSoFar self.new.reader) }
         ensures given { self.new.given ≡ self.old.given }
         ensures came { self.new.came.bytes ≡ self.old.came.bytes }
         ensures ended { self.new.ended ≡ self.old.ended }

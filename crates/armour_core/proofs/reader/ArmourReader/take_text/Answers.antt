@@ -25,7 +25,7 @@ returns-in-Err-Failed-clause-takes g c =
 
 pub returns-in-Err-Failed-clause-spent : goal.returns-in-Err-Failed-clause-spent
 returns-in-Err-Failed-clause-spent g c =
-    failed_spent (g.S.Source.state c.args.input.now) (g.S.Source.state c.next.new.input) c.args.self.now _ c.in-Err-Failed.field-0 c.in-Err-Failed.ensures.empty c.requires.spent (record { unarmour = refl; handed = refl })
+    failed_spent (g.S.Source.state c.args.input.now) (g.S.Source.state c.next.new.input) c.args.self.now _ c.in-Err-Failed.field-0 c.in-Err-Failed.ensures.empty c.requires.spent (record { unarmour = refl; handed = refl }) c.requires.goes
 
 pub returns-in-Err-Failed-clause-failed : goal.returns-in-Err-Failed-clause-failed
 returns-in-Err-Failed-clause-failed g c =
