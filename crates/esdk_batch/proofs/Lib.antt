@@ -12,6 +12,7 @@ pub mod FirstTurns
 pub mod FurtherLines
 pub mod FurtherTurns
 pub mod Gaining
+pub mod JobReads
 pub mod Judgements
 pub mod Judging
 pub mod Keeping

@@ -1,11 +1,11 @@
 -- The calls of a shelf, one after another; and that of a job's file the last one finishes it.
-use Rattle.std.proofs.Common.{◌≡◌, ◌≢◌, ◌<◌, ◌≤◌, ◌∙◌, ℕ, zero, suc, Bool, true, false, cond, List, [], ◌∷◌, ◌++◌, length, get_or, set, map, refl, sym, ap, subst, inl, inr, arith, append_assoc, append-nil}
+use Rattle.std.proofs.Common.{◌≡◌, ◌≢◌, ◌<◌, ◌≤◌, ◌+◌, ◌∙◌, ℕ, zero, suc, Bool, true, false, List, [], ◌∷◌, ◌++◌, length, get_or, set, map, refl, sym, ap, subst, inl, inr, arith, append_assoc, append-nil, length-set}
 use Rattle.std.specs.Prelude.{◌⊎◌, All, OnErr, Result, Ok, Err, bytes_eq}
 use Rattle.std.specs.List.{AllZip}
 use Rattle.std.specs.Cmp.Lexicographic.{bytes_decides}
 use Rattle.std.proofs.lemmas.List.{get_or_read, length-map}
 use Rattle.std.proofs.lemmas.List.Folds.{list_any_at}
-use Rattle.std.proofs.lemmas.List.Elements.{All-append, All-cons, All-nil, All-rest, All-weaker, filter-append, filter_passes, All-filter}
+use Rattle.std.proofs.lemmas.List.Elements.{All-append, All-cons, All-nil, All-weaker, filter-append, filter_passes, All-filter}
 use Rattle.esdk_fields.specs.Counts.{Rose}
 use Rattle.esdk_seen.specs.Calls.{ForWhom, ShelfCall, announces, appends, creates, finishes, reads}
 use Rattle.esdk_base.specs.Streams.{ShelfState}
@@ -16,16 +16,19 @@ use Rattle.job_file.specs.JobFile.{is_written}
 use Rattle.batch_report.specs.declared.job_lines.JobLine.{JobLine}
 use Rattle.batch_report.specs.declared.job_lines.JobEnd.{JobEnd}
 use Rattle.batch_report.specs.declared.job_lines.JobEnd.TheVariants as ends
+use Rattle.esdk_batch.specs.declared.progress.Live.{Live}
 use Rattle.esdk_batch.specs.declared.progress.Progress.{Progress}
 use Rattle.esdk_batch.specs.declared.progress.Progress.TheVariants as stages
 use Rattle.esdk_batch.specs.Batch.{kind_of}
 use Rattle.esdk_batch.specs.FileEndLaws.{calls_more, calls_none}
+use Rattle.esdk_batch.specs.JobReads.{IsAtFront, IsReadSo, JobTurn, ReadsOnce, ReadsSoFar, all_calls, calls_of, reads_of}
 use Rattle.esdk_batch.specs.Placing.{IsPlaced, PutsInPlace, readers_of, unplaced_end, unplaced_line}
 use Rattle.esdk_batch.specs.Progress.{is_ended}
 use Rattle.esdk_batch.specs.Rounds.{FilesAreApart}
-use Rattle.esdk_batch.specs.ShelfCalls.{AreFinished, CallsAtMost, FinishesBy, FinishesNot, HasCalls, IsFinished, IsFinishedSo, IsOfJob, IsOfJobs, IsOfTurn, JobIsOver, IsReadOf, IsWrite, JobsCall, TurnCalls, calls_about, is_about}
+use Rattle.esdk_batch.specs.ShelfCalls.{AreFinished, CallsAtMost, FinishesBy, FurtherCalls, FinishesNot, HasCalls, HasTurns, IsFinished, IsFinishedSo, IsOfJob, IsOfJobs, IsOfTurn, JobIsOver, IsReadOf, IsWrite, JobsCall, TurnCalls, calls_about, is_about}
 use Rattle.esdk_batch.specs.Turns.{HasKind}
 use Rattle.esdk_batch.proofs.Conclusion.{ended_at}
+use Rattle.esdk_batch.proofs.JobReads.{all_more, apart_names, filter_none, kept_one, none_behind, once_read, once_so_far, read_and_writes, read_none, so_far_more, turns_here, turns_there, writes_behind}
 use Rattle.esdk_batch.proofs.Places.{at_places}
 use Rattle.esdk_batch.proofs.Standing.{apart_at}
 
@@ -82,6 +85,54 @@ pub read_writes_turn : (job : Job) (from to : List ℕ) (old mid new : ShelfStat
 read_writes_turn job from to old mid new reads_from writes_to one two =
     calls_more (IsOfTurn job) old mid new (reads_turn job from old mid reads_from one) (writes_turn job to mid new writes_to two)
 
+-- ---- a job that reads on
+
+module _ (job : Job) (live : Live) (from to : List ℕ) (old mid new : ShelfState) (piece : List ℕ) (reads_from : from ≡ job.from) (writes_to : to ≡ job.to) (later : old.faults ≤ mid.faults)
+    (told : mid.calls ≡ old.calls ++ reads from live.at piece ∷ []) (writes : HasCalls (IsWrite to) mid new) where
+  abbrev piece_read : HasCalls (IsOfTurn job) old mid
+  piece_read = calls_weaker (IsReadOf from) (IsOfTurn job) old mid (read_named job from reads_from) (calls_one (IsReadOf from) old mid (reads from live.at piece) refl told later)
+
+  abbrev worked_on : HasCalls (IsOfTurn job) old new
+  worked_on = calls_more (IsOfTurn job) old mid new piece_read (calls_weaker (IsWrite to) (IsOfTurn job) mid new (write_named job to writes_to) writes)
+
+  reads_now : (made : List ShelfCall) → reads_of job.from (made ++ worked_on.made) ≡ reads_of job.from made ++ reads job.from live.at piece ∷ []
+  reads_now made = read_and_writes job.from from to live.at piece made writes.made reads_from writes.all
+
+  -- it goes on behind the piece
+  pub reads_further : (next : Live) → 1 ≤ length piece → next.at ≡ live.at + length piece → FurtherCalls job (stages.Live live) (stages.Live next) old new
+  reads_further next some at = record {
+    has = worked_on;
+    read = λ made so. subst (ReadsSoFar job.from next.at) (sym (reads_now made))
+        (subst (λ (n : ℕ). ReadsSoFar job.from n (reads_of job.from made ++ reads job.from live.at piece ∷ [])) (sym at) (so_far_more job.from live.at (reads_of job.from made) piece some so));
+  }
+
+  -- it ends there
+  pub reads_last : (next : Progress) (line : JobLine) → next ≡ stages.Ended line → FurtherCalls job (stages.Live live) next old new
+  reads_last next line is = subst (λ (p : Progress). FurtherCalls job (stages.Live live) p old new) (sym is) (record {
+    has = worked_on;
+    read = λ made so. subst (ReadsOnce job.from) (sym (reads_now made)) (once_read job.from live.at (reads_of job.from made) piece so);
+  })
+
+-- it ends, and nothing was read
+pub reads_no_more : (job : Job) (live : Live) (next : Progress) (line : JobLine) (old new : ShelfState) → next ≡ stages.Ended line → new.calls ≡ old.calls → old.faults ≤ new.faults
+    → FurtherCalls job (stages.Live live) next old new
+reads_no_more job live next line old new is same later = subst (λ (p : Progress). FurtherCalls job (stages.Live live) p old new) (sym is) (record {
+  has = record { made = []; calls = same ∙ sym (append-nil old.calls); all = All-nil (IsOfTurn job); later = later };
+  read = λ made so. subst (ReadsOnce job.from) (sym (ap (reads_of job.from) (append-nil made))) (once_so_far job.from live.at (reads_of job.from made) so);
+})
+
+first_so : (job : Job) (next : Progress) (made more : List ShelfCall) → IsAtFront next → reads_of job.from more ≡ reads_of job.from made → IsReadSo job stages.Waiting made → IsReadSo job next more
+first_so job stages.Waiting made more at same so = absurd at
+first_so job (stages.Live live) made more at same so = subst (ReadsSoFar job.from live.at) (sym same) (subst (λ (n : ℕ). ReadsSoFar job.from n (reads_of job.from made)) (sym at) so)
+first_so job (stages.Ended line) made more at same so = subst (ReadsOnce job.from) (sym same) (once_so_far job.from 0 (reads_of job.from made) so)
+
+-- it is opened, and what it writes is made
+pub reads_first : (job : Job) (next : Progress) (old new : ShelfState) → IsAtFront next → HasCalls (IsWrite job.to) old new → FurtherCalls job stages.Waiting next old new
+reads_first job next old new at writes = record {
+  has = calls_weaker (IsWrite job.to) (IsOfTurn job) old new (write_named job job.to refl) writes;
+  read = λ made so. first_so job next made (made ++ writes.made) at (writes_behind job.from job.to made writes.made writes.all) so;
+}
+
 turn_job : (job : Job) (call : ShelfCall) → IsOfTurn job call → IsOfJob job call
 turn_job job (reads name at bytes) (inl read) = read
 turn_job job (reads name at bytes) (inr write) = absurd write
@@ -114,13 +165,6 @@ turn_not job made all =
     let about = filter_passes (is_about job.to) made in
     λ k d below. write_about job (get_or (calls_about job.to made) k d) (of k d below) (about k d below)
 
-other_name : (b : Bool) (q name : List ℕ) → bytes_eq q name ≡ b → q ≢ name → b ≡ false
-other_name true q name e apart = absurd (apart ((bytes_decides q name).0 e))
-other_name false q name e apart = refl
-
-apart_names : (q name other : List ℕ) → q ≡ name → other ≢ name → bytes_eq q other ≡ false
-apart_names q name other is apart = other_name (bytes_eq q other) q other refl (λ same. apart (sym same ∙ is))
-
 other_about : (job : Job) (other : List ℕ) (call : ShelfCall) → other ≢ job.to → IsOfJob job call → is_about other call ≡ false
 other_about job other (reads name at bytes) apart of = refl
 other_about job other (creates name) apart of = apart_names name job.to other of apart
@@ -128,22 +172,12 @@ other_about job other (appends name bytes) apart of = apart_names name job.to ot
 other_about job other (announces name) apart of = absurd of
 other_about job other (finishes name whom) apart of = apart_names name job.to other of apart
 
-kept_none : (b : Bool) (call : ShelfCall) (rest : List ShelfCall) → b ≡ false → cond b (call ∷ rest) rest ≡ rest
-kept_none true call rest e = absurd cc
-kept_none false call rest e = refl
-
-none_about : (name : List ℕ) (made : List ShelfCall) → All (λ call. is_about name call ≡ false) made → calls_about name made ≡ []
-none_about name [] none = refl
-none_about name (call ∷ made) none =
-    kept_none (is_about name call) call (calls_about name made) (none zero call (omega arith))
-    ∙ none_about name made (All-rest (λ (c : ShelfCall). is_about name c ≡ false) call made (call ∷ made) refl none)
-
 -- the calls of a job aren't about what another writes
 pub about_other : (job : Job) (other : List ℕ) (made more : List ShelfCall) → other ≢ job.to → All (IsOfJob job) more → calls_about other (made ++ more) ≡ calls_about other made
 about_other job other made more apart all =
     about_both other made more
     ∙ ap (λ (l : List ShelfCall). calls_about other made ++ l)
-    (none_about other more (All-weaker (IsOfJob job) (λ (call : ShelfCall). is_about other call ≡ false) (λ call of. other_about job other call apart of) more all))
+    (filter_none (is_about other) more (All-weaker (IsOfJob job) (λ (call : ShelfCall). is_about other call ≡ false) (λ call of. other_about job other call apart of) more all))
     ∙ append-nil (calls_about other made)
 
 -- ---- how far a job's file is
@@ -194,10 +228,6 @@ so_behind job (stages.Ended line) made more first before now none less so = elim
 
 -- ---- the file is put in its place
 
-same_about : (b : Bool) (call : ShelfCall) → b ≡ true → cond b (call ∷ []) [] ≡ call ∷ []
-same_about true call e = refl
-same_about false call e = absurd cc
-
 -- the call that finishes it stands last
 finish_last : (job : Job) (kind : Kind) (made : List ShelfCall) → kind ≡ kind_of job.work → All (IsOfTurn job) made → IsFinished job (made ++ finishes job.to (whom (readers_of kind)) ∷ [])
 finish_last job kind made is all =
@@ -207,7 +237,7 @@ finish_last job kind made is all =
       written = calls_about job.to made;
       only = turn_not job made all;
       last = about_both job.to made (call ∷ [])
-          ∙ ap (λ (l : List ShelfCall). calls_about job.to made ++ l) (same_about (bytes_eq job.to job.to) call ((bytes_decides job.to job.to).1 refl) ∙ ap (λ (c : ShelfCall). c ∷ []) named);
+          ∙ ap (λ (l : List ShelfCall). calls_about job.to made ++ l) (kept_one (bytes_eq job.to job.to) call ((bytes_decides job.to job.to).1 refl) ∙ ap (λ (c : ShelfCall). c ∷ []) named);
     }
 
 not_done : (end : JobEnd) → unplaced_end end ≡ ends.Done → ⊥
@@ -230,45 +260,64 @@ finish_job job kind = refl
 placed_as : (line : JobLine) (placed : Progress) (before after : ℕ) → IsPlaced (stages.Ended line) placed before after → (placed ≡ stages.Ended line) ⊎ (placed ≡ stages.Ended (unplaced_line line))
 placed_as line placed before after is = elim is [ inl same ↦ inl same.0 | inr failed ↦ inr failed.0 ]
 
-module _ (job : Job) (before mid after : ShelfState) (later : mid.faults ≤ after.faults) (has : HasCalls (IsOfTurn job) before mid) where
+module _ (job : Job) (old next : Progress) (before mid after : ShelfState) (later : mid.faults ≤ after.faults) (further : FurtherCalls job old next before mid) where
   abbrev worked : HasCalls (IsOfJob job) before mid
-  worked = calls_weaker (IsOfTurn job) (IsOfJob job) before mid (turn_job job) has
+  worked = calls_weaker (IsOfTurn job) (IsOfJob job) before mid (turn_job job) further.has
 
   -- no call came then
   abbrev still : after.calls ≡ mid.calls → HasCalls (IsOfJob job) before after
-  still same = record { made = has.made; calls = same ∙ has.calls; all = worked.all; later = omega (arith, has.later, later) }
+  still same = record { made = further.has.made; calls = same ∙ further.has.calls; all = worked.all; later = omega (arith, further.has.later, later) }
 
-  running : (placed one : Progress) → after.calls ≡ mid.calls → placed ≡ one → IsFinishedSo job one has.made before.faults after.faults → TurnCalls job placed before after
-  running placed one same is so = record { has = still same; so = subst (λ (p : Progress). IsFinishedSo job p has.made before.faults after.faults) (sym is) so }
+  running : (placed one : Progress) → after.calls ≡ mid.calls → placed ≡ one → IsFinishedSo job one further.has.made before.faults after.faults
+      → ((made : List ShelfCall) → IsReadSo job old made → IsReadSo job one (made ++ further.has.made)) → TurnCalls job old placed before after
+  running placed one same is so read = record {
+    has = still same;
+    so = subst (λ (p : Progress). IsFinishedSo job p further.has.made before.faults after.faults) (sym is) so;
+    read = λ made was. subst (λ (p : Progress). IsReadSo job p (made ++ further.has.made)) (sym is) (read made was);
+  }
 
-  finished : (placed : Progress) (line : JobLine) → line.kind ≡ kind_of job.work → (placed ≡ stages.Ended line) ⊎ (placed ≡ stages.Ended (unplaced_line line))
-      → after.calls ≡ mid.calls ++ finishes job.to (whom (readers_of line.kind)) ∷ [] → TurnCalls job placed before after
-  finished placed line kind is told =
+  -- the call that finishes the file reads nothing
+  read_finished : (placed : Progress) (line : JobLine) (call : ShelfCall) → next ≡ stages.Ended line → (placed ≡ stages.Ended line) ⊎ (placed ≡ stages.Ended (unplaced_line line)) → reads_of job.from (call ∷ []) ≡ []
+      → (made : List ShelfCall) → IsReadSo job old made → IsReadSo job placed (made ++ (further.has.made ++ call ∷ []))
+  read_finished placed line call ends is none made was =
+      let so : ReadsOnce job.from (reads_of job.from (made ++ further.has.made)) = subst (λ (p : Progress). IsReadSo job p (made ++ further.has.made)) ends (further.read made was) in
+      let all : ReadsOnce job.from (reads_of job.from (made ++ (further.has.made ++ call ∷ []))) =
+      subst (ReadsOnce job.from) (sym (ap (reads_of job.from) (sym (append_assoc made further.has.made (call ∷ []))) ∙ none_behind job.from (made ++ further.has.made) (call ∷ []) none)) so in
+      elim is [
+        | inl same ↦ subst (λ (p : Progress). IsReadSo job p (made ++ (further.has.made ++ call ∷ []))) (sym same) all
+        | inr other ↦ subst (λ (p : Progress). IsReadSo job p (made ++ (further.has.made ++ call ∷ []))) (sym other) all
+      ]
+
+  finished : (placed : Progress) (line : JobLine) → next ≡ stages.Ended line → line.kind ≡ kind_of job.work → (placed ≡ stages.Ended line) ⊎ (placed ≡ stages.Ended (unplaced_line line))
+      → after.calls ≡ mid.calls ++ finishes job.to (whom (readers_of line.kind)) ∷ [] → TurnCalls job old placed before after
+  finished placed line ends kind is told =
       let call : ShelfCall = finishes job.to (whom (readers_of line.kind)) in
       record {
         has = calls_more (IsOfJob job) before mid after worked (calls_one (IsOfJob job) mid after call (finish_job job (whom (readers_of line.kind))) told later);
-        so = ended_once job placed line (has.made ++ call ∷ []) before.faults after.faults is (finish_last job line.kind has.made kind has.all);
+        so = ended_once job placed line (further.has.made ++ call ∷ []) before.faults after.faults is (finish_last job line.kind further.has.made kind further.has.all);
+        read = read_finished placed line call ends is refl;
       }
 
-  finished_so : (next placed : Progress) → HasKind job.work next → IsPlaced next placed mid.faults after.faults → FinishesBy job next placed mid after → TurnCalls job placed before after
-  finished_so stages.Waiting placed kind is by = running placed stages.Waiting by is (turn_not job has.made has.all)
-  finished_so (stages.Live live) placed kind is by = running placed (stages.Live live) by is (turn_not job has.made has.all)
-  finished_so (stages.Ended line) placed kind is by = elim by [
-    | inl told ↦ finished placed line kind (placed_as line placed mid.faults after.faults is) told
+  finished_so : (placed : Progress) (is : Progress) → next ≡ is → HasKind job.work is → IsPlaced is placed mid.faults after.faults → FinishesBy job is placed mid after → TurnCalls job old placed before after
+  finished_so placed stages.Waiting same kind is by = running placed stages.Waiting by is (turn_not job further.has.made further.has.all)
+      (λ made was. subst (λ (p : Progress). IsReadSo job p (made ++ further.has.made)) same (further.read made was))
+  finished_so placed (stages.Live live) same kind is by = running placed (stages.Live live) by is (turn_not job further.has.made further.has.all)
+      (λ made was. subst (λ (p : Progress). IsReadSo job p (made ++ further.has.made)) same (further.read made was))
+  finished_so placed (stages.Ended line) same kind is by = elim by [
+    | inl told ↦ finished placed line same kind (placed_as line placed mid.faults after.faults is) told
     | inr failed ↦ running placed (stages.Ended (unplaced_line line)) failed.0 failed.1
-        (inr (turn_not job has.made has.all, not_done line.end, rose_sooner before.faults mid.faults after.faults has.later failed.2))
+        (inr (turn_not job further.has.made further.has.all, not_done line.end, rose_sooner before.faults mid.faults after.faults further.has.later failed.2))
+        (λ made was. subst (λ (p : Progress). IsReadSo job p (made ++ further.has.made)) same (further.read made was))
   ]
 
 -- a turn, behind which what the job wrote was put in its place
-pub turn_finished : (job : Job) (next placed : Progress) (before mid after : ShelfState) → HasKind job.work next → PutsInPlace next placed mid after → HasCalls (IsOfTurn job) before mid
-    → FinishesBy job next placed mid after → TurnCalls job placed before after
-turn_finished job next placed before mid after kind puts has by = finished_so job before mid after puts.later has next placed kind puts.line by
+pub turn_finished : (job : Job) (old next placed : Progress) (before mid after : ShelfState) → HasKind job.work next → PutsInPlace next placed mid after → FurtherCalls job old next before mid
+    → FinishesBy job next placed mid after → TurnCalls job old placed before after
+turn_finished job old next placed before mid after kind puts further by = finished_so job old next before mid after puts.later further placed next refl kind puts.line by
 
--- a turn in which memory ran out
-pub turn_broken : (job : Job) (one : Progress) (before now : ShelfState) → is_ended one ≡ false → HasCalls (IsOfTurn job) before now → TurnCalls job one before now
-turn_broken job stages.Waiting before now runs has = record { has = calls_weaker (IsOfTurn job) (IsOfJob job) before now (turn_job job) has; so = turn_not job has.made has.all }
-turn_broken job (stages.Live live) before now runs has = record { has = calls_weaker (IsOfTurn job) (IsOfJob job) before now (turn_job job) has; so = turn_not job has.made has.all }
-turn_broken job (stages.Ended line) before now runs has = absurd cc
+-- as the code says how the job stood
+pub calls_as : (job : Job) (old known new : Progress) (before now : ShelfState) → old ≡ known → TurnCalls job known new before now → TurnCalls job old new before now
+calls_as job old known new before now is turn = subst (λ (p : Progress). TurnCalls job p new before now) (sym is) turn
 
 -- ---- all jobs
 
@@ -281,7 +330,7 @@ running_not job stages.Waiting made before now runs so = so
 running_not job (stages.Live live) made before now runs so = so
 running_not job (stages.Ended line) made before now runs so = absurd cc
 
-job_jobs : (jobs : List Job) (i : ℕ) (job : Job) → i < length jobs → job ≡ get_or jobs i job → (call : ShelfCall) → IsOfJob job call → IsOfJobs jobs call
+pub job_jobs : (jobs : List Job) (i : ℕ) (job : Job) → i < length jobs → job ≡ get_or jobs i job → (call : ShelfCall) → IsOfJob job call → IsOfJobs jobs call
 job_jobs jobs i job within is (reads name at bytes) of =
     list_any_at (λ (j : Job). bytes_eq name j.from) jobs i job within ((bytes_decides name (get_or jobs i job).from).1 (of ∙ ap (λ (j : Job). j.from) is))
 job_jobs jobs i job within is (creates name) of = written_at jobs i job name within is of
@@ -290,7 +339,8 @@ job_jobs jobs i job within is (announces name) of = absurd of
 job_jobs jobs i job within is (finishes name whom) of = written_at jobs i job name within is of
 
 module _ (jobs : List Job) (progress : List Progress) (i : ℕ) (job : Job) (old new : Progress) (began before now : ShelfState) (within : i < length progress) (each : length progress ≡ length jobs)
-    (is : job ≡ get_or jobs i job) (was : old ≡ get_or progress i old) (runs : is_ended old ≡ false) (apart : FilesAreApart jobs) (turn : TurnCalls job new before now) (all : JobsCall jobs began before progress) where
+    (is : job ≡ get_or jobs i job) (was : old ≡ get_or progress i old) (runs : is_ended old ≡ false) (apart : FilesAreApart jobs)
+    (has : HasCalls (IsOfJob job) before now) (so : IsFinishedSo job new has.made before.faults now.faults) (all : JobsCall jobs began before progress) where
   inside : i < length jobs
   inside = omega (arith, within, each)
 
@@ -299,21 +349,77 @@ module _ (jobs : List Job) (progress : List Progress) (i : ℕ) (job : Job) (old
       (subst (λ (p : Progress). IsFinishedSo job p all.has.made began.faults before.faults) (sym was)
       (subst (λ (j : Job). IsFinishedSo j (get_or progress i old) all.has.made began.faults before.faults) (sym is) (all.so i job old within)))
 
-  here : (d : Job) → IsFinishedSo (get_or jobs i d) new (all.has.made ++ turn.has.made) began.faults now.faults
-  here d = subst (λ (j : Job). IsFinishedSo j new (all.has.made ++ turn.has.made) began.faults now.faults) (get_or_read jobs i job inside is d)
-      (so_behind job new all.has.made turn.has.made began.faults before.faults now.faults not_before all.has.later turn.so)
+  here : (d : Job) → IsFinishedSo (get_or jobs i d) new (all.has.made ++ has.made) began.faults now.faults
+  here d = subst (λ (j : Job). IsFinishedSo j new (all.has.made ++ has.made) began.faults now.faults) (get_or_read jobs i job inside is d)
+      (so_behind job new all.has.made has.made began.faults before.faults now.faults not_before all.has.later so)
 
-  there : (k : ℕ) (d : Job) (one : Progress) → k ≢ i → k < length progress → IsFinishedSo (get_or jobs k d) (get_or progress k one) (all.has.made ++ turn.has.made) began.faults now.faults
+  there : (k : ℕ) (d : Job) (one : Progress) → k ≢ i → k < length progress → IsFinishedSo (get_or jobs k d) (get_or progress k one) (all.has.made ++ has.made) began.faults now.faults
   there k d one other below =
-      so_same (get_or jobs k d) (get_or progress k one) all.has.made (all.has.made ++ turn.has.made) began.faults before.faults now.faults
-      (about_other job (get_or jobs k d).to all.has.made turn.has.made (apart_at jobs i k job d apart inside (omega (arith, below, each)) other is) turn.has.all) turn.has.later (all.so k d one below)
+      so_same (get_or jobs k d) (get_or progress k one) all.has.made (all.has.made ++ has.made) began.faults before.faults now.faults
+      (about_other job (get_or jobs k d).to all.has.made has.made (apart_at jobs i k job d apart inside (omega (arith, below, each)) other is) has.all) has.later (all.so k d one below)
 
-  pub jobs_after : JobsCall jobs began now (set progress i new)
-  jobs_after = record {
-    has = calls_more (IsOfJobs jobs) began before now all.has (calls_weaker (IsOfJob job) (IsOfJobs jobs) before now (job_jobs jobs i job inside is) turn.has);
-    so = λ k d one below. at_places (λ k p. IsFinishedSo (get_or jobs k d) p (all.has.made ++ turn.has.made) began.faults now.faults) progress i new within (here d)
-        (λ k p other under. there k d p other under) k one below;
-  }
+  abbrev pub has_after : HasCalls (IsOfJobs jobs) began now
+  has_after = calls_more (IsOfJobs jobs) began before now all.has (calls_weaker (IsOfJob job) (IsOfJobs jobs) before now (job_jobs jobs i job (omega (arith, within, each)) is) has)
+
+  pub so_after : (k : ℕ) (d : Job) (one : Progress) → k < length (set progress i new) → IsFinishedSo (get_or jobs k d) (get_or (set progress i new) k one) (all.has.made ++ has.made) began.faults now.faults
+  so_after k d one below = at_places (λ k p. IsFinishedSo (get_or jobs k d) p (all.has.made ++ has.made) began.faults now.faults) progress i new within (here d) (λ k p other under. there k d p other under) k one below
+
+module _ (jobs : List Job) (progress : List Progress) (i : ℕ) (job : Job) (old new : Progress) (began before now : ShelfState) (within : i < length progress) (each : length progress ≡ length jobs)
+    (is : job ≡ get_or jobs i job) (was : old ≡ get_or progress i old) (turn : TurnCalls job old new before now) (all : JobsCall jobs began before progress) where
+  abbrev pub turns_now : List JobTurn
+  turns_now = all.turns ++ (record { job = i; calls = turn.has.made }) ∷ []
+
+  pub turns_all : all.has.made ++ turn.has.made ≡ all_calls turns_now
+  turns_all = ap (λ (l : List ShelfCall). l ++ turn.has.made) all.in_turns ∙ sym (all_more all.turns (record { job = i; calls = turn.has.made }))
+
+  -- the job had its turn
+  read_here : (d : Job) → HasTurns (get_or jobs i d) new (calls_of i turns_now)
+  read_here d =
+      let before_it : HasTurns job old (calls_of i all.turns) =
+      subst (λ (p : Progress). HasTurns job p (calls_of i all.turns)) (sym was) (subst (λ (j : Job). HasTurns j (get_or progress i old) (calls_of i all.turns)) (sym is) (all.reads_so i job old within)) in
+      let behind : HasTurns job new (calls_of i all.turns ++ turn.has.made) =
+      (All-append (IsOfJob job) (calls_of i all.turns) turn.has.made before_it.0 turn.has.all, turn.read (calls_of i all.turns) before_it.1) in
+      subst (λ (j : Job). HasTurns j new (calls_of i turns_now)) (get_or_read jobs i job (omega (arith, within, each)) is d)
+      (subst (HasTurns job new) (sym (turns_here i all.turns turn.has.made)) behind)
+
+  read_there : (k : ℕ) (d : Job) (one : Progress) → k ≢ i → k < length progress → HasTurns (get_or jobs k d) (get_or progress k one) (calls_of k turns_now)
+  read_there k d one other below = subst (HasTurns (get_or jobs k d) (get_or progress k one)) (sym (turns_there i k all.turns turn.has.made other)) (all.reads_so k d one below)
+
+  pub read_after : (k : ℕ) (d : Job) (one : Progress) → k < length (set progress i new) → HasTurns (get_or jobs k d) (get_or (set progress i new) k one) (calls_of k turns_now)
+  read_after k d one below = at_places (λ k p. HasTurns (get_or jobs k d) p (calls_of k turns_now)) progress i new within (read_here d) (λ k p other under. read_there k d p other under) k one below
+
+pub jobs_after : (jobs : List Job) (progress : List Progress) (i : ℕ) (job : Job) (old new : Progress) (began before now : ShelfState) → i < length progress → length progress ≡ length jobs
+    → job ≡ get_or jobs i job → old ≡ get_or progress i old → is_ended old ≡ false → FilesAreApart jobs → TurnCalls job old new before now → JobsCall jobs began before progress
+    → JobsCall jobs began now (set progress i new)
+jobs_after jobs progress i job old new began before now within each is was runs apart turn all = record {
+  has = has_after jobs progress i job old new began before now within each is was runs apart turn.has turn.so all;
+  so = so_after jobs progress i job old new began before now within each is was runs apart turn.has turn.so all;
+  turns = turns_now jobs progress i job old new began before now within each is was turn all;
+  in_turns = turns_all jobs progress i job old new began before now within each is was turn all;
+  reads_so = read_after jobs progress i job old new began before now within each is was turn all;
+}
+
+pub at_most : (job : Job) (one : Progress) (made : List ShelfCall) (before now : ℕ) → IsFinishedSo job one made before now → IsFinished job made ⊎ FinishesNot job.to made
+at_most job stages.Waiting made before now so = inr so
+at_most job (stages.Live live) made before now so = inr so
+at_most job (stages.Ended line) made before now so = elim so [ inl once ↦ inl once | inr none ↦ inr none.0 ]
+
+still_so : (job : Job) (one : Progress) (made : List ShelfCall) (before now : ℕ) → is_ended one ≡ false → All (IsOfTurn job) made → IsFinishedSo job one made before now
+still_so job stages.Waiting made before now runs all = turn_not job made all
+still_so job (stages.Live live) made before now runs all = turn_not job made all
+still_so job (stages.Ended line) made before now runs all = absurd cc
+
+-- memory ran out in a turn
+pub jobs_broken : (jobs : List Job) (progress : List Progress) (i : ℕ) (job : Job) (old : Progress) (began before now : ShelfState) → i < length progress → length progress ≡ length jobs
+    → job ≡ get_or jobs i job → old ≡ get_or progress i old → is_ended old ≡ false → FilesAreApart jobs → HasCalls (IsOfTurn job) before now → JobsCall jobs began before progress → CallsAtMost jobs began now
+jobs_broken jobs progress i job old began before now within each is was runs apart calls all =
+    let has : HasCalls (IsOfJob job) before now = calls_weaker (IsOfTurn job) (IsOfJob job) before now (turn_job job) calls in
+    let so : IsFinishedSo job old calls.made before.faults now.faults = still_so job old calls.made before.faults now.faults runs calls.all in
+    record {
+      has = has_after jobs progress i job old old began before now within each is was runs apart has so all;
+      most = λ k d below. at_most (get_or jobs k d) (get_or (set progress i old) k stages.Waiting) (all.has.made ++ calls.made) began.faults now.faults
+          (so_after jobs progress i job old old began before now within each is was runs apart has so all k d stages.Waiting (omega (arith, below, length-set progress i old, each)));
+    }
 
 -- ---- the batch
 
@@ -321,12 +427,10 @@ pub jobs_none : (jobs : List Job) (began : ShelfState) (progress : List Progress
 jobs_none jobs began progress waiting = record {
   has = calls_none (IsOfJobs jobs) began;
   so = λ k job one below. subst (λ (p : Progress). IsFinishedSo (get_or jobs k job) p [] began.faults began.faults) (sym (waiting k one below)) (All-nil (IsWrite (get_or jobs k job).to));
+  turns = [];
+  in_turns = refl;
+  reads_so = λ k job one below. subst (λ (p : Progress). HasTurns (get_or jobs k job) p []) (sym (waiting k one below)) (All-nil (IsOfJob (get_or jobs k job)), read_none (get_or jobs k job));
 }
-
-pub at_most : (job : Job) (one : Progress) (made : List ShelfCall) (before now : ℕ) → IsFinishedSo job one made before now → IsFinished job made ⊎ FinishesNot job.to made
-at_most job stages.Waiting made before now so = inr so
-at_most job (stages.Live live) made before now so = inr so
-at_most job (stages.Ended line) made before now so = elim so [ inl once ↦ inl once | inr none ↦ inr none.0 ]
 
 abbrev pub jobs_at_most : (jobs : List Job) (began now : ShelfState) (progress : List Progress) → length progress ≡ length jobs → JobsCall jobs began now progress → CallsAtMost jobs began now
 jobs_at_most jobs began now progress each all = record {
@@ -349,6 +453,14 @@ module _ (jobs : List Job) (began now : ShelfState) (progress : List Progress) (
       let named : get_or progress k (stages.Ended line) ≡ stages.Ended (get_or lines k line) = ap (λ (ps : List Progress). get_or ps k (stages.Ended line)) ended ∙ ended_at lines k line in
       subst (λ (p : Progress). IsFinishedSo (get_or jobs k job) p all.has.made began.faults now.faults) named (all.so k job (stages.Ended line) under)
 
+  read_at : (lines : List JobLine) → progress ≡ map stages.Ended lines → (k : ℕ) (job : Job) → k < length jobs
+      → All (IsOfJob (get_or jobs k job)) (calls_of k all.turns) × ReadsOnce (get_or jobs k job).from (reads_of (get_or jobs k job).from (calls_of k all.turns))
+  read_at [] ended k job below = absurd (omega (arith, below, each, ap length ended))
+  read_at (line ∷ lines) ended k job below =
+      let one : Progress = stages.Ended line in
+      let named : get_or progress k one ≡ stages.Ended (get_or (line ∷ lines) k line) = ap (λ (ps : List Progress). get_or ps k one) ended ∙ ended_at (line ∷ lines) k line in
+      subst (λ (p : Progress). HasTurns (get_or jobs k job) p (calls_of k all.turns)) named (all.reads_so k job one (omega (arith, below, each)))
+
   over_all : (lines : List JobLine) → progress ≡ map stages.Ended lines → AllZip (λ job line. JobIsOver job line.end all.has.made began.faults now.faults) jobs lines
   over_all lines ended =
       each_zip (λ (job : Job) (line : JobLine). JobIsOver job line.end all.has.made began.faults now.faults) jobs lines
@@ -358,7 +470,7 @@ module _ (jobs : List Job) (began now : ShelfState) (progress : List Progress) (
 pub jobs_finished : (jobs file : List Job) (before began now : ShelfState) (progress : List Progress) (lines : List JobLine) → jobs ≡ file → began ≡ before → length progress ≡ length jobs
     → JobsCall jobs began now progress → progress ≡ map stages.Ended lines → AreFinished file before now lines
 jobs_finished jobs file before began now progress lines same still each all ended =
-    let finished : AreFinished jobs began now lines = record { has = all.has; over = over_all jobs began now progress each all lines ended } in
+    let finished : AreFinished jobs began now lines = record { has = all.has; read = record { turns = all.turns; in_turns = all.in_turns; each = read_at jobs began now progress each all lines ended }; over = over_all jobs began now progress each all lines ended } in
     subst (λ (f : List Job). AreFinished f before now lines) same (subst (λ (s : ShelfState). AreFinished jobs s now lines) still finished)
 
 pub most_since : (jobs file : List Job) (before began now : ShelfState) → jobs ≡ file → began ≡ before → CallsAtMost jobs began now → CallsAtMost file before now

@@ -5,6 +5,7 @@ pub mod Failures
 pub mod Files
 pub mod FileEnd
 pub mod FileEndLaws
+pub mod JobReads
 pub mod Keeping
 pub mod Managing
 pub mod Moments

@@ -17,6 +17,7 @@ use Rattle.batch_report.specs.declared.job_lines.JobEnd.TheVariants as ends
 use Rattle.esdk_batch.specs.declared.progress.Progress.{Progress}
 use Rattle.esdk_batch.specs.declared.progress.Progress.TheVariants as stages
 use Rattle.esdk_batch.specs.Batch.{kind_of}
+use Rattle.esdk_batch.specs.JobReads.{IsReadSo, JobTurn, ReadsOnce, all_calls, calls_of, reads_of}
 use Rattle.esdk_batch.specs.Placing.{readers_of, unplaced_line}
 
 -- ---- calls between two moments
@@ -103,10 +104,17 @@ FinishesBy job (stages.Ended line) placed before after =
     ⊎ ((after.calls ≡ before.calls) × (placed ≡ stages.Ended (unplaced_line line))
     × Rose before.faults after.faults)
 
+-- The calls of a turn up to where the job's file is put in its place: behind others by which it
+-- read its file as far as it was, it reads it as far as it is now.
+pub record FurtherCalls (job : Job) (old new : Progress) (before now : ShelfState) : Type 0 where
+  pub has : HasCalls (IsOfTurn job) before now
+  pub read : (made : List ShelfCall) → IsReadSo job old made → IsReadSo job new (made ++ has.made)
+
 -- The calls of a turn, behind which the job stands so.
-pub record TurnCalls (job : Job) (new : Progress) (before now : ShelfState) : Type 0 where
+pub record TurnCalls (job : Job) (old new : Progress) (before now : ShelfState) : Type 0 where
   pub has : HasCalls (IsOfJob job) before now
   pub so : IsFinishedSo job new has.made before.faults now.faults
+  pub read : (made : List ShelfCall) → IsReadSo job old made → IsReadSo job new (made ++ has.made)
 
 -- ---- all jobs
 
@@ -118,6 +126,21 @@ IsOfJobs jobs (appends name bytes) = is_written jobs name ≡ true
 IsOfJobs jobs (announces name) = ⊥
 IsOfJobs jobs (finishes name whom) = is_written jobs name ≡ true
 
+-- The calls of the turns of a job that stands so are its own, and by them it read its file so far.
+abbrev pub HasTurns : Job → Progress → List ShelfCall → Type 0
+HasTurns job one calls = All (IsOfJob job) calls × IsReadSo job one calls
+
+-- The calls are those of turns of the jobs. Those of a job's turns read what it reads, or write or
+-- finish what it writes, and by them it read its file once: in a row from its front, and not on
+-- behind its end.
+pub record ReadsInTurns (jobs : List Job) (made : List ShelfCall) : Type 0 where
+  pub turns : List JobTurn
+  pub in_turns : made ≡ all_calls turns
+  pub each : (k : ℕ) (job : Job) → k < length jobs
+      → All (IsOfJob (slice_index_or jobs k job)) (calls_of k turns)
+      × ReadsOnce (slice_index_or jobs k job).from
+      (reads_of (slice_index_or jobs k job).from (calls_of k turns))
+
 -- The calls since a batch began whose jobs stand so.
 pub record JobsCall (jobs : List Job) (began now : ShelfState) (progress : List Progress)
     : Type 0 where
@@ -125,6 +148,10 @@ pub record JobsCall (jobs : List Job) (began now : ShelfState) (progress : List 
   pub so : (k : ℕ) (job : Job) (one : Progress) → k < length progress
       → IsFinishedSo (slice_index_or jobs k job) (slice_index_or progress k one) has.made
       began.faults now.faults
+  pub turns : List JobTurn
+  pub in_turns : has.made ≡ all_calls turns
+  pub reads_so : (k : ℕ) (job : Job) (one : Progress) → k < length progress
+      → HasTurns (slice_index_or jobs k job) (slice_index_or progress k one) (calls_of k turns)
 
 -- The calls since a batch began are of files that its jobs read and write, and each job's file was
 -- finished once at the most.
@@ -133,8 +160,9 @@ pub record CallsAtMost (jobs : List Job) (began now : ShelfState) : Type 0 where
   pub most : All (λ job. IsFinished job has.made ⊎ FinishesNot job.to has.made) jobs
 
 -- The jobs all ended, and each job's file was finished; or that isn't told, and then the shelf
--- failed since the batch began, and the job isn't done.
+-- failed since the batch began, and the job isn't done. Each job read its file once.
 pub record AreFinished (jobs : List Job) (began now : ShelfState) (lines : List JobLine)
     : Type 0 where
   pub has : HasCalls (IsOfJobs jobs) began now
+  pub read : ReadsInTurns jobs has.made
   pub over : AllZip (λ job line. JobIsOver job line.end has.made began.faults now.faults) jobs lines

@@ -24,10 +24,11 @@ ghost use Rattle.esdk_batch.specs.Failures.{TurnCounts, tally_of};
 ghost use Rattle.esdk_batch.specs.Files.{KeepsOthers, MakesFile};
 ghost use Rattle.esdk_batch.specs.Moments.{GainsAt};
 ghost use Rattle.esdk_batch.specs.Ending.{EndsFor};
+ghost use Rattle.esdk_batch.specs.JobReads.{IsAtFront};
 ghost use Rattle.esdk_batch.specs.Keeping.{KeepsSessions};
 ghost use Rattle.esdk_batch.specs.Opening.{BeginsFile, job_request};
 ghost use Rattle.esdk_batch.specs.SealStory.{SealAsked};
-ghost use Rattle.esdk_batch.specs.ShelfCalls.{HasCalls, IsOfTurn, IsWrite};
+ghost use Rattle.esdk_batch.specs.ShelfCalls.{HasCalls, IsWrite};
 ghost use Rattle.esdk_batch.specs.Underway.{IsLiveAt, TakesTurn};
 ghost use Rattle.esdk_batch.specs.Watching.{IsFrom, Watch, files_by};
 ghost use Rattle.esdk_batch.specs.Batch.{kind_of};
@@ -85,7 +86,8 @@ pub(crate) fn open_job<M: Manager, F: Shelf, W: Entropy>(
     ensures kind { IfOk result (λ next. HasKind job.now.work next) }
     ensures moment { GainsAt now (journal_of desk.old) (journal_of desk.new) }
     ensures kept { KeepsOthers (F.state shelf.old).files (F.state shelf.new).files job.now.to }
-    ensures calls { HasCalls (IsOfTurn job.now) (F.state shelf.old) (F.state shelf.new) }
+    ensures calls { HasCalls (IsWrite job.now.to) (F.state shelf.old) (F.state shelf.new) }
+    ensures front { IfOk result IsAtFront }
     ensures counts { IfOk result (λ next. TurnCounts job.now next
         (tally_of (F.state shelf.old) (W.state entropy.old).faults
         (M.state (manager_of desk.old)).meaning.faults)
@@ -169,6 +171,7 @@ fn open_sealing<M: Manager, F: Shelf, W: Entropy>(
     ensures moment { GainsAt now (journal_of desk.old) (journal_of desk.new) }
     ensures kept { KeepsOthers (F.state shelf.old).files (F.state shelf.new).files to.now }
     ensures calls { HasCalls (IsWrite to.now) (F.state shelf.old) (F.state shelf.new) }
+    ensures front { IfOk result IsAtFront }
     ensures counts { (job : Job) → job.to ≡ to.now → IfOk result (λ next. TurnCounts job next
         (tally_of (F.state shelf.old) (W.state entropy.old).faults
         (M.state (manager_of desk.old)).meaning.faults)
@@ -221,6 +224,7 @@ fn open_opening<M: Manager, F: Shelf>(
     ensures kind { (work : Work) → Unseal ≡ kind_of work → IfOk result (λ next. HasKind work next) }
     ensures kept { KeepsOthers (F.state shelf.old).files (F.state shelf.new).files to.now }
     ensures calls { HasCalls (IsWrite to.now) (F.state shelf.old) (F.state shelf.new) }
+    ensures front { IfOk result IsAtFront }
     ensures counts { (job : Job) (entropy keyring : ℕ) → job.to ≡ to.now
         → IfOk result (λ next. TurnCounts job next
         (tally_of (F.state shelf.old) entropy keyring)
@@ -255,6 +259,7 @@ fn begin<M: Manager, F: Shelf>(
     ensures kind { (work : Work) → kind ≡ kind_of work → HasKind work result }
     ensures kept { KeepsOthers (F.state shelf.old).files (F.state shelf.new).files to.now }
     ensures calls { HasCalls (IsWrite to.now) (F.state shelf.old) (F.state shelf.new) }
+    ensures front { IsAtFront result }
     ensures counts { (job : Job) (entropy keyring : ℕ) → job.to ≡ to.now → TurnCounts job result
         (tally_of (F.state shelf.old) entropy keyring)
         (tally_of (F.state shelf.new) entropy keyring) }

@@ -18,7 +18,7 @@ ghost use Rattle.esdk_batch.specs.Underway.{TakesTurn};
 ghost use Rattle.esdk_batch.specs.Failures.{HasFile, TurnCounts, tally_of};
 ghost use Rattle.esdk_batch.specs.Files.{KeepsOthers};
 ghost use Rattle.esdk_batch.specs.Moments.{GainsAt, TakesMoment};
-ghost use Rattle.esdk_batch.specs.ShelfCalls.{HasCalls, IsOfTurn, TurnCalls};
+ghost use Rattle.esdk_batch.specs.ShelfCalls.{FurtherCalls, HasCalls, IsOfTurn, TurnCalls};
 ghost use Rattle.esdk_batch.specs.Watching.{IsFrom, Watch, files_by};
 ghost use Rattle.esdk_batch.specs.declared.progress.Progress.TheVariants as stages;
 
@@ -78,7 +78,7 @@ pub(crate) fn take_turn<M: Manager, F: Shelf, W: Entropy, C: Clock>(
         (C.state clock.new) (journal_of desk.old) (journal_of desk.new) }
     ensures kept { KeepsOthers (F.state shelf.old).files (F.state shelf.new).files job.now.to }
     ensures calls { is_ended progress.old ≡ false → OnOk result
-        (TurnCalls job.now progress.new (F.state shelf.old) (F.state shelf.new)) }
+        (TurnCalls job.now progress.old progress.new (F.state shelf.old) (F.state shelf.new)) }
     ensures broken { is_ended progress.old ≡ false → OnErr result
         (HasCalls (IsOfTurn job.now) (F.state shelf.old) (F.state shelf.new)) }
     ensures counts { is_ended progress.old ≡ false
@@ -141,6 +141,8 @@ fn go_on<M: Manager, F: Shelf>(
     ensures moment { GainsAt now (journal_of desk.old) (journal_of desk.new) }
     ensures kept { KeepsOthers (F.state shelf.old).files (F.state shelf.new).files job.now.to }
     ensures calls { HasCalls (IsOfTurn job.now) (F.state shelf.old) (F.state shelf.new) }
+    ensures further { IfOk result (λ next. FurtherCalls job.now (stages.Live live) next
+        (F.state shelf.old) (F.state shelf.new)) }
     ensures counts { (entropy : ℕ) → HasFile (F.state shelf.old).files job.now (stages.Live live)
         → IfOk result (λ next. TurnCounts job.now next
         (tally_of (F.state shelf.old) entropy (M.state (manager_of desk.old)).meaning.faults)

@@ -1,13 +1,12 @@
 -- A job's first turn is that of its work.
-use Rattle.std.proofs.Common.{ap, arith, refl, sym, subst}
+use Rattle.std.proofs.Common.{ℕ, List, ap, arith, refl, sym, subst}
 use Rattle.std.proofs.lemmas.Result.{IfOk-weaker}
 use Rattle.desk_core.specs.Stands.{manager_of}
 use Rattle.job_file.specs.JobFile.{IsWork}
 use Rattle.job_file.specs.declared.job.Work.{Work}
 use Rattle.esdk_batch.specs.FileEndLaws.{calls_none}
 use Rattle.esdk_batch.specs.SealStory.{SealAsked}
-use Rattle.esdk_batch.specs.ShelfCalls.{IsOfTurn}
-use Rattle.esdk_batch.proofs.ShelfCalls.{writes_turn}
+use Rattle.esdk_batch.specs.ShelfCalls.{HasCalls, IsWrite}
 use Rattle.esdk_batch.proofs.TurnCounting.{counts_from}
 use Rattle.esdk_batch.proofs.Wishes.{asks_as, none_absent}
 use Rattle.esdk_batch.proofs.opening.open_job.Goals as goal
@@ -49,10 +48,10 @@ returns-in-Decrypt-clause-counts g c =
 -- ---- the calls of the shelf
 
 pub returns-in_err-wish-in-Encrypt-clause-calls : goal.returns-in_err-wish-in-Encrypt-clause-calls
-returns-in_err-wish-in-Encrypt-clause-calls g c = calls_none (IsOfTurn c.args.job.now) _
+returns-in_err-wish-in-Encrypt-clause-calls g c = calls_none (IsWrite c.args.job.now.to) _
 
 pub returns-in_ok-wish-in-Encrypt-clause-calls : goal.returns-in_ok-wish-in-Encrypt-clause-calls
-returns-in_ok-wish-in-Encrypt-clause-calls g c = writes_turn c.args.job.now c.as_str-to.result.now _ _ c.as_str-to.ensures.text c.open_sealing.ensures.calls
+returns-in_ok-wish-in-Encrypt-clause-calls g c = subst (λ (n : List ℕ). HasCalls (IsWrite n) (g.F.Shelf.state c.args.shelf.now) (g.F.Shelf.state c.open_sealing.new.shelf)) c.as_str-to.ensures.text c.open_sealing.ensures.calls
 
 pub returns-in-Decrypt-clause-calls : goal.returns-in-Decrypt-clause-calls
-returns-in-Decrypt-clause-calls g c = writes_turn c.args.job.now c.as_str-to.result.now _ _ c.as_str-to.ensures.text c.open_opening.ensures.calls
+returns-in-Decrypt-clause-calls g c = subst (λ (n : List ℕ). HasCalls (IsWrite n) (g.F.Shelf.state c.args.shelf.now) (g.F.Shelf.state c.open_opening.new.shelf)) c.as_str-to.ensures.text c.open_opening.ensures.calls

@@ -9,7 +9,7 @@ use Rattle.esdk_batch.specs.ShelfCalls.{IsOfJob}
 use Rattle.esdk_batch.proofs.AllCounting.{counted_after, has_file_at}
 use Rattle.esdk_batch.proofs.Keeping.{beyond_set, keeps_same, keeps_turn}
 use Rattle.esdk_batch.proofs.Moments.{reads_none, reads_turn}
-use Rattle.esdk_batch.proofs.ShelfCalls.{jobs_after, jobs_at_most, on_err, turn_broken}
+use Rattle.esdk_batch.proofs.ShelfCalls.{jobs_after, jobs_broken, on_err}
 use Rattle.esdk_batch.proofs.Standing.{others_after}
 use Rattle.esdk_batch.proofs.Windows.{round_begun, round_skips, round_starts, round_turns}
 use Rattle.esdk_batch.proofs.rounds.run_round.Goals as goal
@@ -111,9 +111,8 @@ returns-in_err-take_turn-clause-broken g c = λ began first.
     let was = get_or_default progress at c.index-progress-at-in-loop-at.result one within in
     let each = c.loop-at.invariant.on.each in
     let job = c.index-jobs-at.result in
-    on_err _ (jobs_at_most c.args.jobs.now began _ (set progress at one) (length-set progress at one ∙ each)
-    (jobs_after c.args.jobs.now progress at job one one began _ _ within each c.index-jobs-at.is was runs c.requires.apart
-    (turn_broken job one _ _ runs (c.in_err-take_turn.ensures.broken runs)) (c.loop-at.invariant.calls began first)))
+    on_err _ (jobs_broken c.args.jobs.now progress at job one began _ _ within each c.index-jobs-at.is was runs c.requires.apart
+    (c.in_err-take_turn.ensures.broken runs) (c.loop-at.invariant.calls began first))
 
 -- ---- the other sessions
 

@@ -1,5 +1,6 @@
 -- A further turn is what its reading and its feeding come to.
 use Rattle.std.proofs.Common.{◌≡◌, ◌∙◌, ◌+◌, false, Some, None, length, take, refl, sym, ap, arith}
+use Rattle.std.proofs.lemmas.List.{length-take-le}
 use Rattle.desk_core.specs.Desk.{DropSession, after_desk_call}
 use Rattle.desk_core.specs.Stands.{manager_of, journal_of}
 use Rattle.esdk_batch.specs.FileEndLaws.{from_later}
@@ -11,7 +12,7 @@ use Rattle.esdk_batch.proofs.FurtherTurns.{finished_so, turn_sooner, unread_so}
 use Rattle.esdk_batch.proofs.Keeping.{keeps_dropped}
 use Rattle.esdk_batch.proofs.Managers.{admits_between}
 use Rattle.esdk_batch.proofs.Moments.{gains_none}
-use Rattle.esdk_batch.proofs.ShelfCalls.{read_writes_turn, reads_turn}
+use Rattle.esdk_batch.proofs.ShelfCalls.{read_writes_turn, reads_further, reads_last, reads_no_more, reads_turn}
 use Rattle.esdk_batch.proofs.TurnCounting.{counts_from, piece_as, piece_ended, piece_goes, there_mid, unread_counts}
 use Rattle.esdk_batch.proofs.Watched.{piece_seen, read_known, still_seen}
 use Rattle.esdk_batch.proofs.turns.go_on.Goals as goal
@@ -197,3 +198,25 @@ returns-in-Some-clause-calls g c =
 pub returns-in-None-clause-calls : goal.returns-in-None-clause-calls
 returns-in-None-clause-calls g c =
     read_writes_turn c.args.job.now c.as_str.result.now c.as_str-to.result.now _ _ _ c.as_str.ensures.text c.as_str-to.ensures.text c.read_piece.ensures.calls c.feed_piece.ensures.calls
+
+-- ---- what of its file is read
+
+pub returns-in-Err-clause-further : goal.returns-in-Err-clause-further
+returns-in-Err-clause-further g c = reads_no_more c.args.job.now c.args.live c.ended_job.result _ _ _ c.ended_job.ensures c.in-Err.ensures.tells c.read_piece.ensures.calls.later
+
+pub returns-then-count-eq0-clause-further : goal.returns-then-count-eq0-clause-further
+returns-then-count-eq0-clause-further g c =
+    reads_last c.args.job.now c.args.live c.as_str.result.now c.as_str-to.result.now _ _ _ (take c.in-Ok.count c.read_piece.new.buffer) c.as_str.ensures.text c.as_str-to.ensures.text
+    c.read_piece.ensures.calls.later c.in-Ok.ensures.tells c.end_session.ensures.calls c.ended_job-then-count-eq0.result _ c.ended_job-then-count-eq0.ensures
+
+pub returns-in-Some-clause-further : goal.returns-in-Some-clause-further
+returns-in-Some-clause-further g c =
+    reads_last c.args.job.now c.args.live c.as_str.result.now c.as_str-to.result.now _ _ _ (take c.in-Ok.count c.read_piece.new.buffer) c.as_str.ensures.text c.as_str-to.ensures.text
+    c.read_piece.ensures.calls.later c.in-Ok.ensures.tells c.feed_piece.ensures.calls c.ended_job-in-Some.result _ c.ended_job-in-Some.ensures
+
+pub returns-in-None-clause-further : goal.returns-in-None-clause-further
+returns-in-None-clause-further g c =
+    let long : length (take c.in-Ok.count c.read_piece.new.buffer) ≡ c.in-Ok.count = length-take-le c.in-Ok.count c.read_piece.new.buffer c.in-Ok.ensures.reads.0.fits in
+    reads_further c.args.job.now c.args.live c.as_str.result.now c.as_str-to.result.now _ _ _ (take c.in-Ok.count c.read_piece.new.buffer) c.as_str.ensures.text c.as_str-to.ensures.text
+    c.read_piece.ensures.calls.later c.in-Ok.ensures.tells c.feed_piece.ensures.calls (record { session = c.args.live.session; at = c.args.live.at + c.in-Ok.count; served = c.either-served.result })
+    (omega (arith, long, c.if-count-eq0.false)) (omega (arith, long))

@@ -10,8 +10,8 @@ use Rattle.esdk_batch.specs.Underway.{JobHasSession}
 use Rattle.esdk_batch.proofs.Unplaced.{counts_placed, kept_placed, kind_placed, lines_placed, number_placed, turn_placed, turns_first, turns_placed}
 use Rattle.esdk_batch.proofs.Keeping.{keeps_as, keeps_same}
 use Rattle.esdk_batch.specs.FileEndLaws.{from_later}
-use Rattle.esdk_batch.specs.ShelfCalls.{IsOfTurn}
-use Rattle.esdk_batch.proofs.ShelfCalls.{on_err, turn_finished}
+use Rattle.esdk_batch.specs.ShelfCalls.{IsOfTurn, IsWrite}
+use Rattle.esdk_batch.proofs.ShelfCalls.{calls_as, on_err, reads_first, turn_finished, writes_turn}
 use Rattle.esdk_batch.proofs.TakenTurns.{further_taken, lines_as, none_taken, turn_as}
 use Rattle.esdk_batch.proofs.Watched.{placed_seen}
 use Rattle.esdk_batch.proofs.turns.take_turn.Goals as goal
@@ -25,7 +25,7 @@ returns-in_ok-next-in-Waiting-clause-turn g c = λ by first last v from admits s
       turn.1,
       turn_as _ c.args.job.now c.args.progress.now stages.Waiting c.put_in_place.result v turn.0 _ _ _ _ c.in-Waiting.is
           (turn_placed _ c.args.job.now stages.Waiting c.in_ok-next-in-Waiting.next c.put_in_place.result v turn.0 _ _ _ _ _ _ _ c.put_in_place.ensures.puts
-          (placed_seen by c.args.job.now c.in_ok-next-in-Waiting.next c.put_in_place.result _ _ (from_later (IsOfTurn c.args.job.now) by _ _ c.in_ok-next-in-Waiting.ensures.calls from) c.put_in_place.ensures.puts.files c.put_in_place.ensures.calls)
+          (placed_seen by c.args.job.now c.in_ok-next-in-Waiting.next c.put_in_place.result _ _ (from_later (IsWrite c.args.job.now.to) by _ _ c.in_ok-next-in-Waiting.ensures.calls from) c.put_in_place.ensures.puts.files c.put_in_place.ensures.calls)
           turn.2),
     )
 
@@ -147,15 +147,18 @@ returns-in-Ended-clause-sessions g c = λ last under beyond. keeps_same last (wa
 
 pub returns-in_ok-next-in-Waiting-clause-calls : goal.returns-in_ok-next-in-Waiting-clause-calls
 returns-in_ok-next-in-Waiting-clause-calls g c = λ runs.
-    turn_finished c.args.job.now c.in_ok-next-in-Waiting.next c.put_in_place.result _ _ _ c.in_ok-next-in-Waiting.ensures.kind c.put_in_place.ensures.puts c.in_ok-next-in-Waiting.ensures.calls c.put_in_place.ensures.calls
+    calls_as c.args.job.now c.args.progress.now stages.Waiting c.put_in_place.result _ _ c.in-Waiting.is
+    (turn_finished c.args.job.now stages.Waiting c.in_ok-next-in-Waiting.next c.put_in_place.result _ _ _ c.in_ok-next-in-Waiting.ensures.kind c.put_in_place.ensures.puts
+    (reads_first c.args.job.now c.in_ok-next-in-Waiting.next _ _ c.in_ok-next-in-Waiting.ensures.front c.in_ok-next-in-Waiting.ensures.calls) c.put_in_place.ensures.calls)
 
 pub returns-in_err-next-in-Waiting-clause-broken : goal.returns-in_err-next-in-Waiting-clause-broken
-returns-in_err-next-in-Waiting-clause-broken g c = λ runs. on_err _ c.in_err-next-in-Waiting.ensures.calls
+returns-in_err-next-in-Waiting-clause-broken g c = λ runs. on_err _ (writes_turn c.args.job.now c.args.job.now.to _ _ refl c.in_err-next-in-Waiting.ensures.calls)
 
 pub returns-in_ok-next-in-Live-clause-calls : goal.returns-in_ok-next-in-Live-clause-calls
 returns-in_ok-next-in-Live-clause-calls g c = λ runs.
-    turn_finished c.args.job.now c.in_ok-next-in-Live.next c.put_in_place-in-Live.result _ _ _ c.in_ok-next-in-Live.ensures.kind c.put_in_place-in-Live.ensures.puts c.in_ok-next-in-Live.ensures.calls
-    c.put_in_place-in-Live.ensures.calls
+    calls_as c.args.job.now c.args.progress.now (stages.Live c.in-Live.live) c.put_in_place-in-Live.result _ _ c.in-Live.is
+    (turn_finished c.args.job.now (stages.Live c.in-Live.live) c.in_ok-next-in-Live.next c.put_in_place-in-Live.result _ _ _ c.in_ok-next-in-Live.ensures.kind c.put_in_place-in-Live.ensures.puts
+    c.in_ok-next-in-Live.ensures.further c.put_in_place-in-Live.ensures.calls)
 
 pub returns-in_err-next-in-Live-clause-broken : goal.returns-in_err-next-in-Live-clause-broken
 returns-in_err-next-in-Live-clause-broken g c = λ runs. on_err _ c.in_err-next-in-Live.ensures.calls
