@@ -1,5 +1,5 @@
 -- What a batch's report shows of the ages of its cache's entries.
-use Rattle.std.proofs.Common.{◌≡◌, ◌∙◌, ℕ, List, [], ◌++◌, Ok, Err, inl, inr, sym, ap, subst}
+use Rattle.std.proofs.Common.{◌≡◌, ◌∙◌, ℕ, List, [], ◌∷◌, ◌++◌, Ok, Err, inl, inr, sym, ap, subst}
 use Rattle.std.specs.Prelude.{IfOk, ◌⊎◌}
 use Rattle.std.specs.declared.option.Option.{Option}
 use Rattle.std.specs.declared.result.Result.{Result}
@@ -9,13 +9,17 @@ use Rattle.keyring_trait.specs.declared.journal.JournalLine.{JournalLine}
 use Rattle.cmm_caching.specs.Journal.{KeepsWithin}
 use Rattle.cmm_caching.specs.Limits.{LimitsValue}
 use Rattle.job_file.specs.JobFile.{JobFile}
+use Rattle.whole_input.specs.FileReads.{ReadsWholeFile, reads_in_row}
+use Rattle.whole_input.proofs.Agreeing.{grows_more}
 use Rattle.batch_report.specs.declared.job_lines.JobLine.{JobLine}
 use Rattle.esdk_batch.specs.Batch.{RunsBatch, SaysWhatWasServed}
 use Rattle.keyring_trait.specs.Saying.{Saying}
 use Rattle.esdk_batch.specs.Moments.{ReadsClock}
+use Rattle.esdk_batch.specs.ShelfCalls.{CallsAtMost}
 use Rattle.esdk_report.specs.declared.failure.Failure.{Failure}
 use Rattle.esdk_report.specs.Report.{Reports}
-use Rattle.esdk_run.specs.Ages.{ServesInTime, ShowsAges}
+use Rattle.esdk_run.specs.Ages.{ServesFileInTime, ServesInTime, ShowsAges}
+use Rattle.esdk_run.specs.Batch.{JobsAre}
 use Rattle.esdk_run.proofs.Showing.{each_has_a_line}
 use Rattle.esdk_run.proofs.Statuses.{not_done, not_seven}
 
@@ -34,13 +38,26 @@ serves_in_time manager file old new entropy spent before after shown clock ticke
       moments = subst (λ (b : List JournalLine). ReadsClock clock ticked b after) none reads;
     }
 
+-- behind the reads of the job file and of the keyring file
+pub serves_file : {E : Type 0} (name keyring bytes : List ℕ) (old between read new : ShelfState) (file : JobFile) (clock ticked : ClockState) (r : Result (List JobLine) E)
+    → JobsAre old between name file → ReadsWholeFile keyring between.calls read.calls bytes → CallsAtMost file.jobs read new → IfOk r (ServesInTime file clock ticked)
+    → IfOk r (ServesFileInTime name old new clock ticked)
+serves_file name keyring bytes old between read new file clock ticked (Err error) jobs reads calls serves = tt
+serves_file name keyring bytes old between read new file clock ticked (Ok lines) jobs reads calls serves = record {
+  file = file;
+  between = between;
+  jobs = jobs;
+  grown = grows_more between.calls read.calls new.calls (reads_in_row keyring 0 (reads.pieces ++ [] ∷ []), reads.calls) (calls.has.made, calls.has.calls);
+  serves = serves;
+}
+
 -- ---- a run of `batch`, as its command ends it
 
-pub ages_kept : (name other : List ℕ) (shelf : ShelfState) (output put : SinkState) (clock ticked : ClockState) (code : ℕ) → other ≡ name
-    → ShowsAges other shelf output put clock ticked → (code ≡ 0) ⊎ (code ≡ 7) → ShowsAges name shelf output put clock ticked
-ages_kept name other shelf output put clock ticked code same shows = λ reported. subst (λ (n : List ℕ). ShowsAges n shelf output put clock ticked) same shows
+pub ages_kept : (name other : List ℕ) (shelf after : ShelfState) (output put : SinkState) (clock ticked : ClockState) (code : ℕ) → other ≡ name
+    → ShowsAges other shelf after output put clock ticked → (code ≡ 0) ⊎ (code ≡ 7) → ShowsAges name shelf after output put clock ticked
+ages_kept name other shelf after output put clock ticked code same shows = λ reported. subst (λ (n : List ℕ). ShowsAges n shelf after output put clock ticked) same shows
 
-pub no_ages : (name : List ℕ) (shelf : ShelfState) (output put report reported : SinkState) (clock ticked : ClockState) (code : ℕ) (failure : Failure) → Reports failure code report reported
-    → (code ≡ 0) ⊎ (code ≡ 7) → ShowsAges name shelf output put clock ticked
-no_ages name shelf output put report reported clock ticked code failure said (inl zero) = absurd (not_done failure code report reported said zero)
-no_ages name shelf output put report reported clock ticked code failure said (inr seven) = absurd (not_seven failure code report reported said seven)
+pub no_ages : (name : List ℕ) (shelf after : ShelfState) (output put report reported : SinkState) (clock ticked : ClockState) (code : ℕ) (failure : Failure) → Reports failure code report reported
+    → (code ≡ 0) ⊎ (code ≡ 7) → ShowsAges name shelf after output put clock ticked
+no_ages name shelf after output put report reported clock ticked code failure said (inl zero) = absurd (not_done failure code report reported said zero)
+no_ages name shelf after output put report reported clock ticked code failure said (inr seven) = absurd (not_seven failure code report reported said seven)

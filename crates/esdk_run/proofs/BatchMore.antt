@@ -1,7 +1,7 @@
 -- What a batch comes to over one manager, it comes to over another that may say as much.
 use Rattle.std.proofs.Common.{◌≡◌, ◌⊎◌, ◌∙◌, ℕ, List, [], ◌∷◌, Option, inl, inr, ap}
 use Rattle.esdk_base.specs.Shelf.{Files}
-use Rattle.esdk_base.specs.Streams.{EntropyState, ShelfState}
+use Rattle.esdk_base.specs.Streams.{EntropyState}
 use Rattle.esdk_fields.specs.declared.refusals.Outside.TheVariants as outsides
 use Rattle.esdk_fields.specs.declared.refusals.Refusal.{Refusal}
 use Rattle.esdk_fields.specs.declared.refusals.Refusal.TheVariants as refusals

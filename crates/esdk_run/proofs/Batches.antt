@@ -1,5 +1,5 @@
 -- What `batch` and `gen` leave, and when they must be done.
-use Rattle.std.proofs.Common.{◌≡◌, ◌⊎◌, ◌∙◌, ℕ, Bool, true, false, List, Ok, inl, inr, refl, sym, ap, subst, arith}
+use Rattle.std.proofs.Common.{◌≡◌, ◌⊎◌, ◌∙◌, ℕ, Bool, true, false, List, [], ◌∷◌, ◌++◌, Ok, inl, inr, refl, sym, ap, subst, arith}
 use Rattle.std.proofs.lemmas.Result.{IfErr-weaker}
 use Rattle.std.specs.Prelude.{IfErr, IfSome, is_some, if◌then◌else◌}
 use Rattle.std.specs.declared.result.Result.{Result}
@@ -9,6 +9,8 @@ use Rattle.esdk_base.specs.Receiver.{SinkFails}
 use Rattle.esdk_base.specs.Shelf.{Files, Holds}
 use Rattle.esdk_base.specs.Streams.{EntropyState, ShelfState, SinkState}
 use Rattle.esdk_fields.specs.Counts.{Stayed}
+use Rattle.whole_input.specs.FileReads.{reads_in_row}
+use Rattle.whole_input.proofs.Agreeing.{grows_more}
 use Rattle.esdk_fields.specs.declared.refusals.FileRefusal.{FileRefusal}
 use Rattle.esdk_fields.specs.declared.refusals.Outside.TheVariants as outsides
 use Rattle.keyring_trait.specs.declared.journal.JournalLine.{JournalLine}
@@ -126,11 +128,14 @@ report_unwritten trees name before after unwritten undrawn lines r runs fails =
 all_shown : (trees : Trees) (name : List ℕ) (before after : Objects) (code : ℕ) → RunsAllJobs trees name before after code → ShowsLimits name before after
 all_shown trees name before after code runs =
     let ran = runs.runs.runs.runs in
+    let keyring = runs.runs.has.keyring.file.read in
     record {
       file = runs.runs.file;
       between = runs.runs.has.between;
       lines = runs.lines;
       jobs = runs.runs.has.jobs;
+      grown = grows_more runs.runs.has.between.calls runs.runs.read.calls after.shelf.calls (reads_in_row runs.runs.file.keyring 0 (keyring.pieces ++ [] ∷ []), keyring.calls)
+          (runs.runs.finished.has.made, runs.runs.finished.has.calls);
       gained = runs.writes.gained;
       each = each_has_a_line _ _ _ runs.runs.file.jobs ran.draws runs.lines ran.jobs;
       within = shows_limits runs.runs.file.cache _ _ _ runs.runs.file.jobs ran.draws runs.lines ran.gained ran.jobs ran.served

@@ -32,9 +32,9 @@ use Rattle.esdk_encrypt.specs.Encrypt.{EncryptAsked, EncryptEnds, encrypting_fro
 use Rattle.esdk_encrypt.specs.Gaining.{Gaining}
 use Rattle.esdk_encrypt.specs.Told.{NoneForRequest}
 use Rattle.esdk_encrypt.proofs.Telling.{SaysMore, ends_more}
-use Rattle.esdk_decrypt.specs.Decrypt.{Answering, answering_of}
+use Rattle.esdk_decrypt.specs.Decrypt.{answering_of}
 use Rattle.esdk_decrypt.proofs.Told.{Allows}
-use Rattle.esdk_run.specs.Decrypt.{TreeFinds, TreeFindsNone}
+use Rattle.esdk_run.specs.Decrypt.{TreeFinds, TreeFindsNone, tree_answering}
 use Rattle.esdk_run.specs.Encrypt.{encrypt_asked, refusal_asked, request_asked}
 use Rattle.esdk_run.specs.Giving.{TreeGives, refusal_over}
 use Rattle.esdk_run.specs.Pairs.{required_in}
@@ -130,7 +130,7 @@ chain_says_more {N} meaning p q r now asked context left is_keys is_r is_left =
     let more : SaysMore (asked_of_chain asked (chain tree (required_in asked.pairs)) later (request_of context) now) (encrypt_asked asked context tree (meaning q.0)) =
     record {
       wraps = refl;
-      gives = λ random m given. chain_gives asked context tree random m given.0;
+      gives = λ random m given. (chain_gives asked context tree random m given.0, given.1);
       gives_none = λ error cause. chain_gives_none asked context tree (meaning q.0) q.1 error cause;
       size = refl;
       max_keys = refl;
@@ -208,21 +208,17 @@ chain_finds_none required keys tree left request (managers.Refusal refusal) none
 chain_finds_none required keys tree left request managers.KeyringFault failed = (failed.1 (chain_is_exact tree required), failed.0)
 chain_finds_none required keys tree left request managers.Memory free = tt
 
--- what a tree may answer
-abbrev tree_answers : List (List ℕ) → KeyringMeaning → KeyringMeaning → Answering
-tree_answers required tree left = record { finds = TreeFinds required tree left; finds_none = TreeFindsNone required tree left }
-
 -- what the chain may answer, the tree may
 pub chain_allows : {N : Type 0} (now : ℕ) (meaning : N → KeyringMeaning) (p q : N × List (List ℕ)) (required : List (List ℕ)) (left : N)
     → p.1 ≡ required → left ≡ q.0
     → Allows (answering_of (chain (meaning p.0) p.1) (chain (meaning q.0) q.1) now)
-    (record { finds = TreeFinds required (meaning p.0) (meaning left); finds_none = TreeFindsNone required (meaning p.0) (meaning left) })
+    (tree_answering required (meaning p.0) (meaning left))
 chain_allows {N} now meaning p q required left is_keys is_left =
     let tree : KeyringMeaning = meaning p.0 in
-    let allows : Allows (answering_of (chain tree required) (chain (meaning q.0) q.1) now) (tree_answers required tree (meaning q.0)) =
+    let allows : Allows (answering_of (chain tree required) (chain (meaning q.0) q.1) now) (tree_answering required tree (meaning q.0)) =
     record {
-      finds = λ request m finds. chain_finds required q.1 tree (meaning q.0) request m finds.0;
+      finds = λ request m finds. (chain_finds required q.1 tree (meaning q.0) request m finds.0, finds.1);
       finds_none = λ request error finds. chain_finds_none required q.1 tree (meaning q.0) request error finds;
     } in
-    subst (λ (l : N). Allows (answering_of (chain tree p.1) (chain (meaning q.0) q.1) now) (tree_answers required tree (meaning l))) (sym is_left)
-    (subst (λ (keys : List (List ℕ)). Allows (answering_of (chain tree keys) (chain (meaning q.0) q.1) now) (tree_answers required tree (meaning q.0))) (sym is_keys) allows)
+    subst (λ (l : N). Allows (answering_of (chain tree p.1) (chain (meaning q.0) q.1) now) (tree_answering required tree (meaning l))) (sym is_left)
+    (subst (λ (keys : List (List ℕ)). Allows (answering_of (chain tree keys) (chain (meaning q.0) q.1) now) (tree_answering required tree (meaning q.0))) (sym is_keys) allows)

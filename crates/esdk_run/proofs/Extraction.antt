@@ -24,7 +24,7 @@ use Rattle.esdk_decrypt.proofs.Readers.{answers_unlocking}
 use Rattle.extract_core.specs.declared.errors.ExtractError.{ExtractError}
 use Rattle.extract_core.specs.declared.errors.ExtractError.TheVariants as errors
 use Rattle.extract_core.specs.Extracted.{ByteRange, Extraction, extracted}
-use Rattle.extract_core.specs.Extract.{ExtractEnds, Extracts, most_read, most_bytes_read}
+use Rattle.extract_core.specs.Extract.{ExtractEnds, Extracts, WritesAll, most_read, most_bytes_read}
 use Rattle.extract_core.specs.Laws.{EndsAsItBegins, ExtractsOfWhole}
 use Rattle.extract_core.proofs.Judged.{extracts_whole}
 use Rattle.extract_core.proofs.Allowed.{extract_ends_allowed, extracts_allowed}
@@ -187,16 +187,21 @@ taken_read reader bytes range answer before middle after answers few read =
 held_then : (before : Objects) (middle : ShelfState) (name bytes : List ℕ) → middle.files ≡ before.shelf.files → Holds before.shelf.files name bytes → Holds middle.files name bytes
 held_then before middle name bytes same held = subst (λ (f : Option Files). Holds f name bytes) (sym same) held
 
-pub range_gained : (reader : Reader) (asked : ExtractWords) (middle : ShelfState) (before after : Objects) (unwritten : Type 0) (code : ℕ) (bytes : List ℕ) → IsSeenAs middle after.shelf asked.from bytes
-    → middle.given ≤ before.shelf.given + most_file + most_piece → code ≡ 0 → Ended (decrypting_by reader) asked middle before after unwritten code → GainsRange reader asked bytes before after
-range_gained reader asked middle before after unwritten code bytes held few is_zero (inl (done, (written, extracts))) =
-    let w = extracts.writes bytes held in
+-- what was written with this reader's answer
+pub gains_written : (reader : Reader) (asked : ExtractWords) (middle : ShelfState) (before after : Objects) (bytes : List ℕ) (written : ℕ) → middle.given ≤ before.shelf.given + most_file + most_piece
+    → WritesAll (decrypting_by reader) (range_asked asked) middle after.shelf before.output after.output written bytes → GainsRange reader asked bytes before after
+gains_written reader asked middle before after bytes written few w =
     let is = by_reader reader bytes (range_asked asked) w.answer w.answered in
     record {
       sound = sym (ap (λ (x : Extraction). x.fault) is) ∙ w.sound;
       gained = subst (λ (x : Extraction). Appends before.output.written after.output.written x.part) is w.gained;
       read = taken_read reader bytes (range_asked asked) w.answer before.shelf middle after.shelf w.answered few w.read;
     }
+
+pub range_gained : (reader : Reader) (asked : ExtractWords) (middle : ShelfState) (before after : Objects) (unwritten : Type 0) (code : ℕ) (bytes : List ℕ) → IsSeenAs middle after.shelf asked.from bytes
+    → middle.given ≤ before.shelf.given + most_file + most_piece → code ≡ 0 → Ended (decrypting_by reader) asked middle before after unwritten code → GainsRange reader asked bytes before after
+range_gained reader asked middle before after unwritten code bytes held few is_zero (inl (done, (written, extracts))) =
+    gains_written reader asked middle before after bytes written few (extracts.writes bytes held)
 range_gained reader asked middle before after unwritten code bytes held few is_zero (inr (error, (ends, said))) = absurd (not_done (extraction_failure error) code before.report after.report said is_zero)
 
 -- The run ended with this fault: the output gained what is extracted before it.

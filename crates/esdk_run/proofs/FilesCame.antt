@@ -1,10 +1,7 @@
 -- What `extract`, `audit` and `batch` made of the files that came.
-use Rattle.std.proofs.Common.{◌≡◌, ◌∙◌, ℕ, ◌+◌, ◌≤◌, List, ◌++◌, length, map, Bool, false, true, None, Some, inl, inr, refl, sym, ap, subst, arith}
-use Rattle.std.proofs.lemmas.List.{append_cancel_left}
+use Rattle.std.proofs.Common.{◌≡◌, ◌∙◌, ℕ, ◌+◌, ◌≤◌, List, length, map, inl, inr, refl, sym, ap, subst, arith}
 use Rattle.std.specs.Io.KnownBytes.{Appends}
 use Rattle.std.specs.Prelude.{◌⊎◌}
-use Rattle.esdk_args.specs.declared.request.DecryptWords.{DecryptWords}
-use Rattle.esdk_args.specs.declared.request.EncryptWords.{EncryptWords}
 use Rattle.esdk_args.specs.declared.request.ExtractWords.{ExtractWords}
 use Rattle.esdk_fields.specs.Counts.{Stayed}
 use Rattle.esdk_base.specs.Shelf.{Files}
@@ -12,43 +9,35 @@ use Rattle.esdk_base.specs.Streams.{EntropyState, ShelfState}
 use Rattle.context_codec.specs.Context.{KeyValue}
 use Rattle.keyring_trait.specs.Keyring.{KeyringMeaning}
 use Rattle.keyring_trait.specs.Saying.{Saying}
-use Rattle.keyring_trait.specs.Wrapping.{WrapKeyValue}
+use Rattle.keyring_trait.specs.Uses.{AskedOnce}
+use Rattle.keyring_trait.proofs.Using.{once-weaker}
 use Rattle.multi_keyring.specs.Tree.{all_faults}
 use Rattle.job_file.specs.JobFile.{JobFile}
 use Rattle.batch_report.specs.declared.job_lines.JobLine.{JobLine}
 use Rattle.audit_core.specs.Lines.{audit_lines}
 use Rattle.audit_core.specs.Messages.{audited}
 use Rattle.audit_core.proofs.Came.{finds_what_came}
-use Rattle.esdk_encrypt.proofs.Gaining.{seals_what_came}
-use Rattle.esdk_encrypt.proofs.Telling.{encrypts_more}
-use Rattle.esdk_decrypt.specs.Decrypt.{Decrypts}
 use Rattle.esdk_decrypt.specs.Told.{Reader, decrypting_by}
 use Rattle.extract_core.specs.declared.errors.ExtractError.TheVariants as errors
+use Rattle.extract_core.specs.Extract.{WritesAll}
 use Rattle.whole_input.specs.File.{most_file}
 use Rattle.whole_input.specs.FileReads.{Grows, IsSeenAs}
 use Rattle.whole_input.specs.Pieces.{most_piece}
 use Rattle.esdk_report.specs.Report.{Reports}
 use Rattle.esdk_report.specs.declared.failure.Failure.{Failure}
 use Rattle.esdk_report.specs.declared.failure.Failure.TheVariants as failures
-use Rattle.esdk_run.specs.ArmouredMessage.{output_form, output_gains}
 use Rattle.esdk_run.specs.Audit.{WritesAudit, audit_status}
 use Rattle.esdk_run.specs.Batch.{RunsWithin}
-use Rattle.esdk_run.specs.Decrypt.{DecryptsInput, decrypt_asked, reader_of}
-use Rattle.esdk_run.specs.Encrypt.{EncryptsInput, encrypt_asked, refusal_asked, run_writer}
-use Rattle.esdk_run.specs.Extract.{ExtractFails, ExtractionFails, HasTreeFor, extract_asked, extract_reader}
+use Rattle.esdk_run.specs.Extract.{ExtractFails, ExtractionFails, HasTreeFor, as_decryption, extract_asked, extract_reader, range_asked}
 use Rattle.esdk_run.specs.Objects.{Objects, Unchanged}
-use Rattle.esdk_run.specs.Read.{DecryptReadsWhole, SaysWhatIsReadAs}
-use Rattle.esdk_run.specs.Run.{AuditRuns, BatchRuns, DecryptRuns, EncryptRuns, ExtractRuns, RunsAllJobs, TellsOrLacksMemory}
+use Rattle.esdk_run.specs.Run.{AuditRuns, BatchRuns, ExtractRuns, RunsAllJobs}
 use Rattle.esdk_run.specs.Serving.{managing_over}
-use Rattle.esdk_run.specs.Trees.{TreeIs, Trees}
-use Rattle.esdk_run.specs.UnarmouredDecrypt.{DecryptsAs}
-use Rattle.esdk_run.specs.FilesCame.{AuditedWhatCame, BatchedWhatCame, ComeToWhatIsShown, ReadsOfWhatCame, ShowsWhatCame}
+use Rattle.esdk_run.specs.Trees.{Trees}
+use Rattle.esdk_run.specs.FilesCame.{AuditedWhatCame, BatchedWhatCame, ComeToWhatIsShown, ExtractedWhatCame, ReadsOfWhatCame}
 use Rattle.esdk_run.proofs.WhatCame.{tree_came}
 use Rattle.esdk_run.proofs.Auditing.{told_many}
-use Rattle.esdk_run.proofs.Decryption.{reader_ends}
-use Rattle.esdk_run.proofs.Extraction.{Ended, fault_named, range_gained, reader_ended}
-use Rattle.esdk_run.proofs.Keys.{told_says_more}
-use Rattle.esdk_run.proofs.Reading.{Ending, says_what_is_read}
+use Rattle.esdk_run.proofs.ByUse.{used_extracts}
+use Rattle.esdk_run.proofs.Extraction.{Ended, fault_named, gains_written, range_gained, reader_ended}
 use Rattle.esdk_run.proofs.Statuses.{fault_status, not_done, not_seven}
 use Rattle.esdk_run.specs.ExtractTold.{GainsRange, NamesExtractFault}
 
@@ -63,6 +52,7 @@ of_what_came So trees asked before after unwritten code t grown ended so = recor
   pairs = t.has.given.made;
   tree = t.tree;
   left = t.left;
+  kept = t.has.kept;
   steady = t.has.goes.still;
   middle = t.middle;
   keyring = tree_came trees asked.keyring before.shelf t.middle t.tree t.has.file;
@@ -72,12 +62,27 @@ of_what_came So trees asked before after unwritten code t grown ended so = recor
       (reader_ended asked t.middle before after unwritten code t.given t.given t.tree t.left keys refl told stayed ended);
 }
 
+-- a range that was written is that of the reader who has the keys that the tree's leaves went by
+used_range : (asked : ExtractWords) (before after : Objects) (middle : ShelfState) (given : List KeyValue) (tree left : KeyringMeaning) (written : ℕ) (bytes : List ℕ)
+    → middle.given ≤ before.shelf.given + most_file + most_piece
+    → WritesAll (extract_asked asked given tree left) (range_asked asked) middle after.shelf before.output after.output written bytes
+    → AskedOnce tree.uses left.uses (λ keys. GainsRange (extract_reader asked given keys) asked bytes before after)
+used_range asked before after middle given tree left written bytes few w =
+    once-weaker tree.uses left.uses _ (λ keys. GainsRange (extract_reader asked given keys) asked bytes before after)
+    (λ keys answered. gains_written (extract_reader asked given keys) asked middle before after bytes written few
+    (record { answer = w.answer; answered = answered; sound = w.sound; gained = w.gained; count = w.count; read = w.read }))
+    (used_extracts (as_decryption asked) given tree left (range_asked asked) bytes w.answer w.answered w.sound)
+
 pub extracts_if_done : (trees : Trees) (asked : ExtractWords) (before after : Objects) (unchanged : Unchanged) (code : ℕ)
-    → ExtractRuns trees asked before after unchanged code → code ≡ 0 → ReadsOfWhatCame trees asked before after (λ reader bytes. GainsRange reader asked bytes before after)
+    → ExtractRuns trees asked before after unchanged code → code ≡ 0 → ExtractedWhatCame trees asked before after
+unfolding of_what_came
 extracts_if_done trees asked before after unchanged code (inl done) zero =
     let t = done.1.tree_for in
-    of_what_came _ trees asked before after unchanged.output code t done.1.grown (inl (done.0, (done.1.written, done.1.done)))
-    (λ reader bytes seen few ended. range_gained reader asked t.middle before after unchanged.output code bytes seen few zero ended)
+    record {
+      reads = of_what_came (λ reader bytes. GainsRange reader asked bytes before after) trees asked before after unchanged.output code t done.1.grown (inl (done.0, (done.1.written, done.1.done)))
+          (λ reader bytes seen few ended. range_gained reader asked t.middle before after unchanged.output code bytes seen few zero ended);
+      by_use = λ bytes read. used_range asked before after t.middle t.given t.tree t.left done.1.written bytes (omega (arith, t.has.file.file.most, t.has.file.file.few)) (done.1.done.writes bytes (inr read));
+    }
 extracts_if_done trees asked before after unchanged code (inr fails) zero =
     absurd (not_done fails.failure code before.report after.report fails.said zero)
 

@@ -35,7 +35,7 @@ pub record Keeps (words : Words) (before after : Objects) (unchanged : Unchanged
   pub clock : is_batch words ≡ false → time.same
   pub taken : after.input.given ≤ before.input.given + 2 ^ 62
   pub judged : On requests.List words (λ asked. OnTold before.input.left (λ bytes. AgreesWith code (listing_fault asked.uncommitted (outlook_of asked.armour bytes).bytes)))
-  pub ages : On requests.Batch words (λ name. (code ≡ 0) ⊎ (code ≡ 7) → ShowsAges name before.shelf before.output after.output time.before time.after)
+  pub ages : On requests.Batch words (λ name. (code ≡ 0) ⊎ (code ≡ 7) → ShowsAges name before.shelf after.shelf before.output after.output time.before time.after)
 
 never : true ≡ false → ⊥
 never same = cc
@@ -110,7 +110,7 @@ migrate_keeps words asked before after unchanged time code is files input entrop
 
 pub batch_keeps : (words : Words) (name : List ℕ) (before after : Objects) (unchanged : Unchanged) (time : Ticks) (code : ℕ)
     → words ≡ Ok (requests.Batch name) → unchanged.input → after.input.given ≡ before.input.given
-    → ((code ≡ 0) ⊎ (code ≡ 7) → ShowsAges name before.shelf before.output after.output time.before time.after) → Keeps words before after unchanged time code
+    → ((code ≡ 0) ⊎ (code ≡ 7) → ShowsAges name before.shelf after.shelf before.output after.output time.before time.after) → Keeps words before after unchanged time code
 batch_keeps words name before after unchanged time code is input taken ages =
     subst (λ (w : Words). Keeps w before after unchanged time code) (sym is) (record {
       files = λ no. absurd (never no);
@@ -123,7 +123,7 @@ batch_keeps words name before after unchanged time code is input taken ages =
       ages = λ other same.
           let both : Ok (requests.Batch name) ≡ Ok (requests.Batch other) = same in
           let one : name ≡ other = cc in
-          subst (λ (n : List ℕ). (code ≡ 0) ⊎ (code ≡ 7) → ShowsAges n before.shelf before.output after.output time.before time.after) one ages;
+          subst (λ (n : List ℕ). (code ≡ 0) ⊎ (code ≡ 7) → ShowsAges n before.shelf after.shelf before.output after.output time.before time.after) one ages;
     })
 
 pub extract_keeps : (words : Words) (asked : ExtractWords) (before after : Objects) (unchanged : Unchanged) (time : Ticks) (code : ℕ)
@@ -219,5 +219,5 @@ refused_keeps words fault before after unchanged time code answers said files sh
   clock = λ _. clock;
   taken = none_taken _ _ taken;
   judged = λ asked is. refused_judged words asked fault code before.input.left before.report after.report answers said is;
-  ages = λ name is. no_ages name before.shelf before.output after.output before.report after.report time.before time.after code (words_failure fault) said;
+  ages = λ name is. no_ages name before.shelf after.shelf before.output after.output before.report after.report time.before time.after code (words_failure fault) said;
 }

@@ -23,7 +23,7 @@ use Rattle.esdk_encrypt.proofs.Telling.{SaysMore}
 use Rattle.esdk_decrypt.specs.Told.{answering_by}
 use Rattle.esdk_decrypt.specs.Told.{NoneForAnswer as NoneRead}
 use Rattle.esdk_decrypt.proofs.Told.{Allows, offence_unlocks, sound_unlocks}
-use Rattle.esdk_run.specs.Decrypt.{TreeFinds, TreeFindsNone, decrypt_settings, reader_of}
+use Rattle.esdk_run.specs.Decrypt.{TreeFinds, TreeFindsNone, decrypt_settings, reader_of, tree_answering}
 use Rattle.esdk_run.specs.Encrypt.{encrypt_asked, refusal_asked, request_asked, run_writer}
 use Rattle.esdk_run.specs.Giving.{TreeGives}
 use Rattle.esdk_run.specs.Pairs.{required_in}
@@ -51,7 +51,7 @@ pub told_says_more : (asked : EncryptWords) (context : List KeyValue) (tree left
     → SaysMore (encrypt_asked asked context tree left) (encrypting_by (run_writer asked context keys) (refusal_asked asked context tree) tree.faults left.faults)
 told_says_more asked context tree left keys lawful told = record {
   wraps = keys_wrap tree keys lawful told;
-  gives = λ random m given. (given.unrefused, materials_told (refusal_asked asked context tree) tree keys (request_asked asked context) asked.frame asked.max_keys random m lawful told given);
+  gives = λ random m given. (given.0.unrefused, materials_told (refusal_asked asked context tree) tree keys (request_asked asked context) asked.frame asked.max_keys random m lawful told given.0);
   gives_none = λ error cause. cause;
   size = refl;
   max_keys = refl;
@@ -62,8 +62,8 @@ pub tree_grants : (asked : EncryptWords) (context : List KeyValue) (tree left : 
     → IfSome asked.max_keys (λ most. tree.wraps ≤ most) → Stayed tree.faults left.faults → IsGranted (encrypt_asked asked context tree left)
 tree_grants asked context tree left is_context lawful unrefused allowed stayed = record {
   none = λ error cause. unrefused_memory tree.faults left.faults error stayed (subst (λ (r : Option Refusal). NoneForRequest r tree.faults left.faults error) unrefused cause);
-  context = λ random m given. subst IsContext (sym given.whole) is_context;
-  count = λ random m given. given.count;
+  context = λ random m given. subst IsContext (sym given.0.whole) is_context;
+  count = λ random m given. given.0.count;
   few = lawful.few;
   allowed = allowed;
 }
@@ -102,7 +102,16 @@ keys_allow settings given required tree left keys told stayed = record {
   finds_none = λ request error finds. keys_find_none required tree left keys request error told stayed finds;
 }
 
+-- the same where it is said by which keys
+pub tree_allows : (settings : Settings) (given : List KeyValue) (required : List (List ℕ)) (tree left : KeyringMeaning) (keys : List WrapKeyValue)
+    → tree.keys ≡ Some keys → Stayed tree.faults left.faults
+    → Allows (tree_answering required tree left) (answering_by (record { keys = keys; settings = settings; given = given; required = required }))
+tree_allows settings given required tree left keys told stayed = record {
+  finds = λ request m finds. keys_find required tree left keys request m told stayed finds.0;
+  finds_none = λ request error finds. keys_find_none required tree left keys request error told stayed finds;
+}
+
 -- so does the reader of a decryption
 pub reader_allows : (asked : DecryptWords) (given : List KeyValue) (tree left : KeyringMeaning) (keys : List WrapKeyValue) → tree.keys ≡ Some keys → Stayed tree.faults left.faults
-    → Allows (record { finds = TreeFinds (required_in asked.pairs) tree left; finds_none = TreeFindsNone (required_in asked.pairs) tree left }) (answering_by (reader_of asked given keys))
-reader_allows asked given tree left keys told stayed = keys_allow (decrypt_settings asked) given (required_in asked.pairs) tree left keys told stayed
+    → Allows (tree_answering (required_in asked.pairs) tree left) (answering_by (reader_of asked given keys))
+reader_allows asked given tree left keys told stayed = tree_allows (decrypt_settings asked) given (required_in asked.pairs) tree left keys told stayed

@@ -6,6 +6,7 @@ pub mod Auditing
 pub mod AuditDone
 pub mod Chain
 pub mod Keys
+pub mod ByUse
 pub mod Endings
 pub mod Files
 pub mod FormatFaults

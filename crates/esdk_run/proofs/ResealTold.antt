@@ -30,7 +30,7 @@ use Rattle.reseal_core.proofs.WholeInputs.{fault_front, memory_alone, whole_rese
 use Rattle.esdk_report.specs.Report.{Reports, ShowsContext}
 use Rattle.esdk_report.specs.declared.failure.Failure.{Failure}
 use Rattle.esdk_report.specs.declared.failure.Failure.TheVariants as failures
-use Rattle.esdk_run.specs.Decrypt.{TreeFinds, TreeFindsNone}
+use Rattle.esdk_run.specs.Decrypt.{tree_answering}
 use Rattle.esdk_run.specs.Failures.{resealing_failure}
 use Rattle.esdk_run.specs.FileReading.{FileFails}
 use Rattle.esdk_run.specs.Giving.{refusal_over}
@@ -45,7 +45,7 @@ use Rattle.esdk_run.proofs.Promised.{SaysWhatItReseals, ResealsWholeMessages, Ro
 use Rattle.esdk_run.proofs.Decryption.{context_shown, one_shows_none, zero_shows}
 use Rattle.esdk_run.proofs.Files.{held_is_read, held_is_taken, tree_is_held}
 use Rattle.esdk_run.proofs.Given.{one_context, pairs_not_refused}
-use Rattle.esdk_run.proofs.Keys.{keys_allow, keys_wrap, materials_told}
+use Rattle.esdk_run.proofs.Keys.{keys_wrap, materials_told, tree_allows}
 use Rattle.esdk_run.proofs.Resealing.{ends_unasked, seal_refusal, tree_giving}
 use Rattle.esdk_run.proofs.Statuses.{fault_status, memory_status, not_done}
 use Rattle.esdk_run.proofs.TreesBack.{gives_held, if_none_failed, left_is, none_is_some, told_then}
@@ -203,8 +203,8 @@ module _ (asked : ResealWords) (before after : Objects) (same : Type 0) (code : 
   told_ended (inl (context, (done, shown))) = inl (
     context,
     (
-      input_more (record { finds = TreeFinds (required_in asked.pairs) tree left; finds_none = TreeFindsNone (required_in asked.pairs) tree left }) (answering_by (reseal_reader asked given keys)) (reseal_settings asked) given
-          (tree_giving second) (keys_giving others second later asked.frame) asked.frame (keys_allow (reseal_settings asked) given (required_in asked.pairs) tree left keys told stayed)
+      input_more (tree_answering (required_in asked.pairs) tree left) (answering_by (reseal_reader asked given keys)) (reseal_settings asked) given
+          (tree_giving second) (keys_giving others second later asked.frame) asked.frame (tree_allows (reseal_settings asked) given (required_in asked.pairs) tree left keys told stayed)
           (keys_give others second later asked.frame lawful second_told) before.input after.input before.output after.output before.entropy after.entropy context done,
       shown,
     ),
@@ -212,8 +212,8 @@ module _ (asked : ResealWords) (before after : Objects) (same : Type 0) (code : 
   told_ended (inr (error, (ends, said))) = inr (
     error,
     (
-      stops_more (record { finds = TreeFinds (required_in asked.pairs) tree left; finds_none = TreeFindsNone (required_in asked.pairs) tree left }) (answering_by (reseal_reader asked given keys)) (reseal_settings asked) given
-          (tree_giving second) (keys_giving others second later asked.frame) asked.frame (keys_allow (reseal_settings asked) given (required_in asked.pairs) tree left keys told stayed)
+      stops_more (tree_answering (required_in asked.pairs) tree left) (answering_by (reseal_reader asked given keys)) (reseal_settings asked) given
+          (tree_giving second) (keys_giving others second later asked.frame) asked.frame (tree_allows (reseal_settings asked) given (required_in asked.pairs) tree left keys told stayed)
           (keys_give others second later asked.frame lawful second_told) before.input after.input before.output after.output before.entropy after.entropy same ⊤ error ends,
       said,
     ),

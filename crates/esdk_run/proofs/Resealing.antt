@@ -58,7 +58,7 @@ seals_none tree later request managers.Memory stayed cause = tt
 abbrev giving : ManagerNow → ManagerNow → Giving
 giving old new = record {
   wraps = old.meaning.wraps;
-  gives = λ request random m. GivesMaterials old request random m × new.gave request 0 random m;
+  gives = λ request random m. GivesMaterials old request random m × new.gave old.uses request 0 random m;
   gives_none = GivesNone old new;
 }
 

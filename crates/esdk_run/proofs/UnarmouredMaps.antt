@@ -25,6 +25,7 @@ reads_then Reach input taken So To then x = record {
   bytes = x.bytes;
   count = x.count;
   reach = x.reach;
+  good = x.good;
   stayed = x.stayed;
   so = then x.seen x.read x.so;
 }

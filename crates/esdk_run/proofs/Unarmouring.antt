@@ -10,6 +10,7 @@ use Rattle.esdk_fields.specs.Counts.{Rose, Stayed}
 use Rattle.esdk_fields.specs.declared.faults.Fault.TheVariants.{BadArmour, Truncated}
 use Rattle.esdk_fields.specs.declared.refusals.Outside.TheVariants.{InputTooLong, SourceFault}
 use Rattle.esdk_base.specs.Streams.{OnTold, SourceState, most_input}
+use Rattle.whole_input.specs.Pieces.{APieceBehind}
 use Rattle.whole_input.specs.Taken.{Came, EndSeen, MostTaken}
 use Rattle.armour_core.specs.declared.reader.ArmourReader.{ArmourReader}
 use Rattle.armour_core.specs.declared.source.UnarmouredSource.{UnarmouredSource}
@@ -17,15 +18,16 @@ use Rattle.armour_core.specs.declared.text_end.TextEnd.{TextEnd}
 use Rattle.armour_core.specs.declared.text_end.TextEnd.TheVariants.{Bad, TooLong, Whole}
 use Rattle.armour_core.specs.Outlook.{Outlook, text_outlook, with_front}
 use Rattle.armour_core.specs.Unarmoured.{groups_read, unarmoured}
-use Rattle.armour_core.specs.ReaderLaws.{ends_so, fails_more, fails_none, reads_more, reads_none, seen_more, wanted_before}
-use Rattle.armour_core.specs.ReaderOutlook.{FailsAs, TextIsOver, IsWanted, KeepsOutlook, Outlasts, ArmourReadsOn, coming, gives, pending, reader_outlook, told_end}
+use Rattle.armour_core.specs.ReaderLaws.{ends_so, fails_more, fails_none, good_before, reads_more, reads_none, seen_more, wanted_before}
+use Rattle.armour_core.specs.ReaderOutlook.{FailsAs, GroupsAreGood, IsReadSoFar, TextIsOver, IsWanted, KeepsOutlook, Outlasts, ArmourReadsOn, coming, gives, pending, reader_outlook, told_end}
+use Rattle.armour_core.proofs.Outlooks.{good_text}
 use Rattle.armour_core.proofs.Sizes.{outlook_few}
 use Rattle.esdk_decrypt.specs.declared.errors.DecryptError.{DecryptError}
 use Rattle.esdk_decrypt.specs.declared.errors.DecryptError.TheVariants as errors
 use Rattle.esdk_report.specs.declared.failure.Failure.{Failure}
 use Rattle.esdk_report.specs.declared.failure.Failure.TheVariants as failures
 use Rattle.esdk_run.specs.Failures.{decryption_failure}
-use Rattle.esdk_run.specs.Unarmoured.{AllRead, TextEndsSo, EndsText, IsLongText, NoMoreTaken, ReadsText, TextEnds, given_by_text}
+use Rattle.esdk_run.specs.Unarmoured.{AllGood, AllRead, TextEndsSo, EndsText, IsLongText, NoMoreTaken, ReadsText, TextEnds, given_by_text}
 use Rattle.esdk_run.specs.UnarmouredEnd.{TextIsBehind, IsReadOut, LooksOn, SeesAs, SeesTextEnd, left_of}
 
 -- ---- what is told
@@ -136,6 +138,20 @@ none_given : (unarmoured []).bytes ≡ []
 unfolding unarmoured groups_read
 none_given = refl
 
+none_bad : (unarmoured []).bad ≡ None
+unfolding unarmoured groups_read
+none_bad = refl
+
+-- the groups of text that was read on and then looked at
+good_both : (a b c : SourceState) (r s t : ArmourReader) (h : List ℕ) (one : ArmourReadsOn a b r s h) (two : ArmourReadsOn b c s t [])
+    → (one.text ++ two.text ≡ []) ⊎ APieceBehind (GroupsAreGood r) (one.text ++ two.text)
+unfolding reads_more
+good_both a b c r s t h one two = (reads_more a b c r s t h [] one two).good
+
+good_all : (a b c : SourceState) (r s t : ArmourReader) (h : List ℕ) (one : ArmourReadsOn a b r s h) (two : ArmourReadsOn b c s t []) → GroupsAreGood t [] → GroupsAreGood r (one.text ++ two.text)
+unfolding reads_more
+good_all a b c r s t h one two good = good_before a c r t (h ++ []) (reads_more a b c r s t h [] one two) good
+
 -- ---- what is so of the text
 
 -- All bytes came that there are.
@@ -220,6 +236,23 @@ module _ {input taken seen read : SourceState} {sound : Bool} {judged : Result (
       let was : length (unarmoured last.before).bytes < length read.came = omega (arith, count, last.was, length-append x.first.handed [], ap length came_is) in
       inr (record { before = last.before; piece = last.piece; all = last.all; few = last.few; was = was })
 
+  -- which of its groups are good
+  good_front : (text : List ℕ) → length text ≤ 2 ^ 62 → GroupsAreGood x.r text → (unarmoured text).bad ≡ None
+  good_front text few good = good_text text good.0 few (ap (λ (o : Outlook). o.end) (sym (x.outlook (text ++ good.0))) ∙ good.1)
+
+  good_reach : (whole_text x ≡ []) ⊎ APieceBehind (GroupsAreGood x.r) (whole_text x) → APieceBehind (λ front. (unarmoured front).bad ≡ None) (whole_text x)
+  good_reach (inl empty) = record { before = []; piece = []; all = empty; few = omega arith; was = none_bad }
+  good_reach (inr last) = record {
+    before = last.before;
+    piece = last.piece;
+    all = last.all;
+    few = last.few;
+    was = let size = ap length last.all in good_front last.before (omega (arith, size, length-append last.before last.piece, few_whole)) last.was;
+  }
+
+  all_good : IsReadSoFar x.t → AllGood (whole_text x) read.came
+  all_good out = (all_read out.0, good_front (whole_text x) few_whole (good_all input x.mid taken x.r x.s x.t x.first.handed x.first.reads x.later.awaits.reads out.1))
+
   -- where it isn't looked for the end
   reach_still : sound ≡ false → NoMoreTaken (whole_text x) read.came
   reach_still unsound = by_first x.first.wanted
@@ -235,10 +268,10 @@ module _ {input taken seen read : SourceState} {sound : Bool} {judged : Result (
       by_first (inr wanted) = wanted_reach (wanted_before input x.mid taken x.r x.s x.t x.first.handed [] x.first.reads x.later.awaits.reads none wanted)
 
   -- where a read failed, all bytes were read
-  failed_out : Rose seen.faults read.faults → IsReadOut x.t
+  failed_out : Rose seen.faults read.faults → IsReadSoFar x.t
   failed_out rose =
       let some : 1 ≤ x.m = omega (arith, rose, x.zero, x.seen_faults, x.read_faults) in
-      ap (λ (r : ArmourReader). gives r []) (x.later.awaits.stuck some).0 ∙ x.first.spent x.zero some
+      subst IsReadSoFar (sym (x.later.awaits.stuck some).0) (x.first.spent x.zero some)
 
   -- ---- failures
 
@@ -277,6 +310,7 @@ module _ {input taken seen read : SourceState} {sound : Bool} {judged : Result (
     bytes = whole_bytes ∙ ap (λ (l : List ℕ). l ++ rest_there) (sym came_is);
     count = read_count ∙ ap length (sym came_is);
     reach = reach;
+    good = good_reach (good_both input x.mid taken x.r x.s x.t x.first.handed x.first.reads x.later.awaits.reads);
     stayed = still_stayed;
     so = so;
   }
@@ -286,6 +320,9 @@ module _ {input taken seen read : SourceState} {sound : Bool} {judged : Result (
 
   out_reads : (So : SourceState → SourceState → Type 0) → IsReadOut x.t → So seen read → ReadsText AllRead input taken So
   out_reads So out so = text_reads AllRead So so (all_read out)
+
+  good_reads : (So : SourceState → SourceState → Type 0) → IsReadSoFar x.t → So seen read → ReadsText AllGood input taken So
+  good_reads So out so = text_reads AllGood So so (all_good out)
 
   -- ---- how the text ends
 
@@ -354,7 +391,7 @@ module _ {input taken seen read : SourceState} {sound : Bool} (x : ReadsOver inp
       → TextEnds failure input taken So All Sound
   text_ends So All Sound (failures.Fault (BadArmour number)) so known = absurd known
   text_ends So All Sound (failures.Fault Truncated) so known = whole_reads So known.0 known.1 so
-  text_ends So All Sound (failures.Outside SourceFault) so known = (rose_text x known.0, out_reads x Sound (failed_out x known.0) known.1)
+  text_ends So All Sound (failures.Outside SourceFault) so known = (rose_text x known.0, good_reads x Sound (failed_out x known.0) known.1)
   text_ends So All Sound (failures.Outside InputTooLong) so known = absurd (never_most x known.0)
   text_ends So All Sound failure so known = still_reads x So known so
 
@@ -369,7 +406,7 @@ pub text_decides : {input taken seen read : SourceState} {sound : Bool} (So All 
 text_decides So All Sound (errors.Fault (BadArmour number)) x same all front =
     let sees = sees_end x (judged_sound _ x) same in (ends_text x (Bad number) same sees.0, out_reads x All sees.1 all)
 text_decides So All Sound (errors.Outside SourceFault) x same all front =
-    let sees = sees_end x (judged_sound _ x) same in let kept = none_failed x same in (omega (arith, sees.0, kept), out_reads x Sound sees.1 front)
+    let sees = sees_end x (judged_sound _ x) same in let kept = none_failed x same in (omega (arith, sees.0, kept), good_reads x Sound sees.1 front)
 text_decides So All Sound (errors.Outside InputTooLong) x same all front =
     let sees = sees_end x (judged_sound _ x) same in (is_long x same sees.0 sees.1, out_reads x Sound sees.2 front)
 text_decides So All Sound (errors.Fault fault) x same all front = absurd (sees_end x (judged_sound _ x) same)
@@ -394,6 +431,7 @@ unread_text input So so =
       bytes = refl;
       count = refl;
       reach = inl none_given;
+      good = record { before = []; piece = []; all = refl; few = omega arith; was = none_bad };
       stayed = λ _. omega arith;
       so = so seen;
     }

@@ -8,10 +8,12 @@ use Rattle.armour_core.specs.Outlook.{text_outlook}
 use Rattle.armour_core.specs.declared.text_end.TextEnd.TheVariants as ends
 use Rattle.context_codec.specs.Context.{KeyValue}
 use Rattle.keyring_trait.specs.Keyring.{KeyringMeaning}
+use Rattle.keyring_trait.proofs.Using.{once-weaker}
+use Rattle.esdk_encrypt.specs.Laws.{SealsWhatCame}
 use Rattle.esdk_encrypt.proofs.Gaining.{seals_what_came}
 use Rattle.esdk_encrypt.proofs.Telling.{encrypts_more}
 use Rattle.esdk_decrypt.specs.Decrypt.{DecryptAsked}
-use Rattle.esdk_decrypt.specs.Told.{Reader}
+use Rattle.esdk_decrypt.specs.Told.{Reader, decrypting_by}
 use Rattle.esdk_run.specs.ArmouredMessage.{output_form, output_gains}
 use Rattle.esdk_run.specs.Decrypt.{DecryptsInput, decrypt_asked, reader_of}
 use Rattle.esdk_run.specs.Encrypt.{EncryptsInput, encrypt_asked, refusal_asked, run_writer}
@@ -22,6 +24,7 @@ use Rattle.esdk_run.specs.Trees.{TreeIs, Trees}
 use Rattle.esdk_run.specs.Unarmoured.{ReadsAll, outlook_of}
 use Rattle.esdk_run.specs.UnarmouredDecrypt.{DecryptsAs}
 use Rattle.esdk_run.specs.WhatCame.{OpenedWhatCame, OpensAllThatCame, SealedWhatCame, TreeCame}
+use Rattle.esdk_run.proofs.ByUse.{made_encrypts, used_decrypts}
 use Rattle.esdk_run.proofs.Decryption.{reader_ends}
 use Rattle.esdk_run.proofs.Keys.{told_says_more}
 use Rattle.esdk_run.proofs.Reading.{Ending, says_what_is_read}
@@ -40,12 +43,21 @@ sealed_input trees asked before after done = record {
   context = done.context;
   pairs = done.has.given.made;
   tree = done.tree;
+  left = done.left;
+  kept = done.has.kept;
   keyring = tree_came trees asked.keyring before.shelf after.shelf done.tree done.has.file;
   sealed = λ keys told.
       seals_what_came (output_form asked.armour) (run_writer asked done.context keys) (refusal_asked asked done.context done.tree) done.tree.faults done.left.faults
       before.input after.input before.output after.output before.entropy after.entropy
       (encrypts_more (encrypt_asked asked done.context done.tree done.left) _ before.input after.input (output_gains asked.armour before.output after.output) before.entropy after.entropy
       (told_says_more asked done.context done.tree done.left keys done.has.lawful told) done.done);
+  by_use = once-weaker done.tree.uses done.left.uses _
+      (λ keys. SealsWhatCame (output_form asked.armour) (run_writer asked done.context keys) before.input after.input before.output after.output before.entropy after.entropy)
+      (λ keys made_by.
+      seals_what_came (output_form asked.armour) (run_writer asked done.context keys) (refusal_asked asked done.context done.tree) done.tree.faults done.left.faults
+      before.input after.input before.output after.output before.entropy after.entropy
+      (made_encrypts asked done.context done.tree done.left keys before.input after.input (output_gains asked.armour before.output after.output) before.entropy after.entropy
+      done.has.goes.wraps done.done made_by)) done.done.started.given.1;
 }
 
 pub seals_if_done : (trees : Trees) (asked : EncryptWords) (before after : Objects) (unchanged : Unchanged) (code : ℕ)
@@ -97,6 +109,13 @@ opens_whole reader true before after code bytes came (ended, x) =
     opens_read reader (text_outlook bytes).bytes (with_input before x.seen) (with_input after x.read) code x.so
     (sym all ∙ sym x.reach ∙ sym (bytes_are x.text x.few) ∙ ap (λ (t : List ℕ). (text_outlook t).bytes) text)
 
+-- a decryption that ended well over this reader's answers opened what came
+opens_ended : (reader : Reader) (armour : Bool) (before after : Objects) (unchanged : Unchanged) (code : ℕ) (bytes : List ℕ)
+    → (unchanged.output → after.output ≡ before.output) → code ≡ 0 → after.input.came ≡ before.input.came ++ bytes
+    → Ending armour (decrypting_by reader) before after unchanged.output code → OpensAllThatCame reader (outlook_of armour bytes).bytes before.output after.output
+opens_ended reader armour before after unchanged code bytes same zero came ended =
+    opens_whole reader armour before after code bytes came (read_done reader armour before after code zero (says_what_is_read armour reader before after unchanged.output code same ended))
+
 opened_input : (trees : Trees) (asked : DecryptWords) (before after : Objects) (unchanged : Unchanged) (code : ℕ) (context : List KeyValue)
     → (unchanged.output → after.output ≡ before.output) → code ≡ 0
     → DecryptsInput trees asked before after context → TellsOrLacksMemory context code before.report after.report
@@ -108,6 +127,7 @@ opened_input trees asked before after unchanged code context same zero done told
       pairs = done.has.given.made;
       tree = done.tree;
       left = done.left;
+      kept = done.has.kept;
       steady = done.has.goes.still;
       keyring = tree_came trees asked.keyring before.shelf after.shelf done.tree done.has.file;
       bytes = all.bytes;
@@ -116,10 +136,11 @@ opened_input trees asked before after unchanged code context same zero done told
       sound = all.sound;
       opened = λ keys keys_told stayed.
           let ended : Ending asked.armour (decrypt_asked asked done.given done.tree done.left) before after unchanged.output code = inl (context, done.done, told) in
-          let by_reader = reader_ends asked before after unchanged.output code done.given done.given done.tree done.left keys refl keys_told stayed ended in
-          opens_whole (reader_of asked done.given keys) asked.armour before after code all.bytes all.came
-          (read_done (reader_of asked done.given keys) asked.armour before after code zero
-          (says_what_is_read asked.armour (reader_of asked done.given keys) before after unchanged.output code same by_reader));
+          opens_ended (reader_of asked done.given keys) asked.armour before after unchanged code all.bytes same zero all.came
+          (reader_ends asked before after unchanged.output code done.given done.given done.tree done.left keys refl keys_told stayed ended);
+      by_use = once-weaker done.tree.uses done.left.uses _ (λ keys. OpensAllThatCame (reader_of asked done.given keys) (outlook_of asked.armour all.bytes).bytes before.output after.output)
+          (λ keys opens. opens_ended (reader_of asked done.given keys) asked.armour before after unchanged code all.bytes same zero all.came (inl (context, opens, told)))
+          (used_decrypts asked done.given done.tree done.left before.input after.input before.output after.output context done.done);
     }
 
 pub opens_if_done : (trees : Trees) (asked : DecryptWords) (before after : Objects) (unchanged : Unchanged) (code : ℕ)

@@ -7,6 +7,7 @@ use Rattle.cmm_caching.specs.Journal.{KeepsWithin}
 use Rattle.job_file.specs.JobFile.{JobFile}
 use Rattle.batch_report.specs.declared.job_lines.JobLine.{JobLine}
 use Rattle.batch_report.specs.BatchReport.{report_of}
+use Rattle.whole_input.specs.FileReads.{Grows}
 use Rattle.esdk_batch.specs.Batch.{SaysWhatWasServed}
 use Rattle.esdk_batch.specs.Moments.{ReadsClock}
 use Rattle.esdk_run.specs.Batch.{JobsAre}
@@ -22,17 +23,19 @@ pub record ServesInTime (file : JobFile) (clock ticked : ClockState) (lines : Li
   pub served : SaysWhatWasServed file.jobs lines journal
   pub moments : ReadsClock clock ticked [] journal
 
--- So the jobs were served of the file of this name.
-pub record ServesFileInTime (name : List ℕ) (shelf : ShelfState) (clock ticked : ClockState)
+-- So the jobs were served of the file of this name. Behind the reads that gave it the calls of the
+-- shelf were only added to.
+pub record ServesFileInTime (name : List ℕ) (shelf after : ShelfState) (clock ticked : ClockState)
     (lines : List JobLine) : Type 0 where
   pub file : JobFile
   pub between : ShelfState
   pub jobs : JobsAre shelf between name file
+  pub grown : Grows between.calls after.calls
   pub serves : ServesInTime file clock ticked lines
 
 -- The output gained the report of jobs that were served so.
-pub record ShowsAges (name : List ℕ) (shelf : ShelfState) (output put : SinkState)
+pub record ShowsAges (name : List ℕ) (shelf after : ShelfState) (output put : SinkState)
     (clock ticked : ClockState) : Type 0 where
   pub lines : List JobLine
   pub gained : Appends output.written put.written (report_of lines)
-  pub serves : ServesFileInTime name shelf clock ticked lines
+  pub serves : ServesFileInTime name shelf after clock ticked lines

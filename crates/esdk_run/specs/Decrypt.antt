@@ -1,5 +1,5 @@
 -- What the command `decrypt` comes to.
-use Rattle.std.specs.Prelude.{◌≡◌, ◌⊎◌, ℕ, List, ⊤, Some, None, IfSome}
+use Rattle.std.specs.Prelude.{◌≡◌, ◌⊎◌, ℕ, List, ⊤, Some, None, IfSome, Ok}
 use Rattle.esdk_args.specs.declared.request.DecryptWords.{DecryptWords}
 use Rattle.esdk_fields.specs.Counts.{Rose}
 use Rattle.esdk_fields.specs.declared.faults.Fault.TheVariants.{NoKeyOpens}
@@ -9,14 +9,15 @@ use Rattle.context_codec.specs.Parts.{only_given, whole_of}
 use Rattle.header_codec.specs.declared.settings.Settings.{Settings}
 use Rattle.keyring_trait.specs.declared.manager_errors.ManagerError.{ManagerError}
 use Rattle.keyring_trait.specs.declared.manager_errors.ManagerError.TheVariants as managers
-use Rattle.keyring_trait.specs.Keyring.{KeyringMeaning, Opens}
+use Rattle.keyring_trait.specs.Keyring.{FindsBy, KeyringMeaning, Opens}
+use Rattle.keyring_trait.specs.Uses.{AskedOnce}
 use Rattle.keyring_trait.specs.Materials.{DecMaterialsValue}
 use Rattle.keyring_trait.specs.Requests.{DecRequestValue}
 use Rattle.keyring_trait.specs.Unlocking.{pair_offence}
 use Rattle.keyring_trait.specs.Wrapping.{WrapKeyValue, unwrapped}
 use Rattle.esdk_decrypt.specs.declared.errors.DecryptError.{DecryptError}
 use Rattle.esdk_decrypt.specs.declared.errors.DecryptError.TheVariants as errors
-use Rattle.esdk_decrypt.specs.Decrypt.{DecryptAsked}
+use Rattle.esdk_decrypt.specs.Decrypt.{Answering, DecryptAsked}
 use Rattle.esdk_decrypt.specs.Told.{Reader}
 use Rattle.esdk_report.specs.declared.failure.Failure.{Failure}
 use Rattle.esdk_report.specs.declared.failure.Failure.TheVariants as failures
@@ -64,15 +65,27 @@ TreeFindsNone required tree left request managers.KeyringFault =
 TreeFindsNone required tree left request (managers.Refusal refusal) = ⊥
 TreeFindsNone required tree left request managers.Memory = ⊤
 
+-- The data key is the one that the first opens of the keys that the tree's leaves went by in the
+-- run, each asked once, whatever failed.
+abbrev pub TreeFoundBy : KeyringMeaning → KeyringMeaning → DecRequestValue → DecMaterialsValue
+    → Type 0
+TreeFoundBy tree left request materials = AskedOnce tree.uses left.uses
+    (FindsBy (whole_of request.stored request.given) request.entries (Ok (Some materials.key)))
+
+-- what a tree may answer
+abbrev pub tree_answering : List (List ℕ) → KeyringMeaning → KeyringMeaning → Answering
+tree_answering required tree left = record {
+  finds = λ request materials. TreeFinds required tree left request materials
+      × TreeFoundBy tree left request materials;
+  finds_none = TreeFindsNone required tree left;
+}
+
 -- what is asked for, of a tree that means this before and that after the run: with the pairs that
 -- the words give, and the keys that they require
 abbrev pub decrypt_asked : DecryptWords → List KeyValue → KeyringMeaning → KeyringMeaning
     → DecryptAsked
 decrypt_asked asked given tree left = record {
-  manager = record {
-    finds = TreeFinds (required_in asked.pairs) tree left;
-    finds_none = TreeFindsNone (required_in asked.pairs) tree left;
-  };
+  manager = tree_answering (required_in asked.pairs) tree left;
   settings = decrypt_settings asked;
   given = given;
 }

@@ -15,7 +15,7 @@ use Rattle.esdk_encrypt.specs.Told.{NoneForRequest, Writer}
 use Rattle.esdk_report.specs.declared.failure.Failure.{Failure}
 use Rattle.esdk_report.specs.declared.failure.Failure.TheVariants as failures
 use Rattle.esdk_run.specs.ArmouredMessage.{output_gains}
-use Rattle.esdk_run.specs.Giving.{TreeGives, refusal_over}
+use Rattle.esdk_run.specs.Giving.{TreeGaveBy, TreeGives, refusal_over}
 use Rattle.esdk_run.specs.Objects.{Objects, Unchanged, same_streams}
 use Rattle.esdk_run.specs.Pairs.{RefusesWordPairs, required_in}
 use Rattle.esdk_run.specs.Trees.{HasNoTree, HasTree, IsUntouched, TreeLacksMemory, Trees}
@@ -38,7 +38,9 @@ abbrev pub encrypt_asked : EncryptWords → List KeyValue → KeyringMeaning →
     → EncryptAsked
 encrypt_asked asked context tree left = record {
   wraps = tree.wraps;
-  gives = TreeGives (refusal_asked asked context tree) tree (request_asked asked context);
+  gives = λ random materials. TreeGives (refusal_asked asked context tree) tree
+      (request_asked asked context) random materials
+      × TreeGaveBy tree left (request_asked asked context) random materials;
   gives_none = NoneForRequest (refusal_asked asked context tree) tree.faults left.faults;
   size = asked.frame;
   max_keys = asked.max_keys;

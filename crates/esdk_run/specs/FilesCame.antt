@@ -12,6 +12,7 @@ use Rattle.esdk_base.specs.Streams.{EntropyState, ShelfState}
 use Rattle.context_codec.specs.Context.{KeyValue}
 use Rattle.keyring_trait.specs.Keyring.{KeyringMeaning}
 use Rattle.keyring_trait.specs.Saying.{Saying}
+use Rattle.keyring_trait.specs.Uses.{AskedOnce}
 use Rattle.keyring_trait.specs.Wrapping.{WrapKeyValue}
 use Rattle.job_file.specs.AuditFile.{AuditFile}
 use Rattle.job_file.specs.Audit.{audit_of}
@@ -31,6 +32,7 @@ use Rattle.esdk_decrypt.specs.Told.{Reader}
 use Rattle.esdk_run.specs.AuditTold.{ShowsOpeners}
 use Rattle.esdk_run.specs.Batch.{status_of}
 use Rattle.esdk_run.specs.Extract.{extract_reader}
+use Rattle.esdk_run.specs.ExtractTold.{GainsRange}
 use Rattle.esdk_run.specs.Objects.{Objects}
 use Rattle.esdk_run.specs.Pairs.{context_in}
 use Rattle.esdk_run.specs.Serving.{managing_over}
@@ -49,6 +51,7 @@ pub record ReadsOfWhatCame (trees : Trees) (asked : ExtractWords) (before after 
   pub pairs : context_in asked.pairs ≡ Ok given
   pub tree : KeyringMeaning
   pub left : KeyringMeaning
+  pub kept : trees.kept ≡ Some left
   pub steady : tree.steady ≡ true → Stayed tree.faults left.faults
   pub middle : ShelfState
   pub keyring : TreeCame trees asked.keyring before.shelf middle tree
@@ -57,6 +60,17 @@ pub record ReadsOfWhatCame (trees : Trees) (asked : ExtractWords) (before after 
       → Stayed tree.faults left.faults
       → IsReadAs middle.calls after.shelf.calls asked.from bytes
       → So (extract_reader asked given keys) bytes
+
+-- The output gained the range of any bytes that agree with what the reads gave, for who has the
+-- keys of the tree; and so it did, whether a keyring failed or not, for who has the keys that the
+-- leaves of this tree went by in the run, each asked once, where they show them.
+pub record ExtractedWhatCame (trees : Trees) (asked : ExtractWords) (before after : Objects)
+    : Type 0 where
+  pub reads : ReadsOfWhatCame trees asked before after
+      (λ reader bytes. GainsRange reader asked bytes before after)
+  pub by_use : (bytes : List ℕ) → IsReadAs reads.middle.calls after.shelf.calls asked.from bytes
+      → AskedOnce reads.tree.uses reads.left.uses
+      (λ keys. GainsRange (extract_reader asked reads.given keys) asked bytes before after)
 
 -- ---- `audit`
 
@@ -103,9 +117,10 @@ pub record ComeToWhatIsShown (manager : Saying) (jobs : List Job) (old new : She
 -- The calls of the shelf read the job file, and then the keyring file that it names. From then on
 -- each call read what a job reads, or made what a job writes, appended to it or finished it; and
 -- the file of each job was finished once, for those who may read it, behind all that was written
--- into it, or the shelf failed while the jobs ran and the job isn't done. Of any files that agree
--- with what each of these reads gave, each job comes to what is said of it, its own file being what
--- was appended to it since it was made. The output gained the report of these lines.
+-- into it, or the shelf failed while the jobs ran and the job isn't done; and each job read its
+-- file once. Of any files that agree with what each of these reads gave, each job comes to what is
+-- said of it, its own file being what was appended to it since it was made. The output gained the
+-- report of these lines.
 pub record BatchedWhatCame (trees : Trees) (name : List ℕ) (before after : Objects) (code : ℕ)
     : Type 0 where
   pub bytes : List ℕ

@@ -1,10 +1,11 @@
 -- What a keyring tree gives to encrypt with, where no cache stands over it, and what it refuses.
 use Rattle.std.specs.Prelude.{◌≡◌, ℕ, List, [], ◌∷◌, length, take, drop, Option, option_map, None}
-use Rattle.std.specs.Prelude.{IfSome}
+use Rattle.std.specs.Prelude.{IfSome, Ok}
 use Rattle.esdk_fields.specs.declared.refusals.Refusal.{Refusal}
 use Rattle.context_codec.specs.Context.{KeyValue}
 use Rattle.keyring_trait.specs.declared.served.Served.TheVariants.{Direct}
-use Rattle.keyring_trait.specs.Keyring.{KeyringMeaning}
+use Rattle.keyring_trait.specs.Keyring.{KeyringMeaning, WrapsBy}
+use Rattle.keyring_trait.specs.Uses.{AskedOnce}
 use Rattle.keyring_trait.specs.Manager.{refusal_named, reserved_used}
 use Rattle.keyring_trait.specs.Materials.{EncMaterialsValue}
 use Rattle.keyring_trait.specs.Requests.{EncRequestValue}
@@ -30,3 +31,12 @@ pub record TreeGives (refusal : Option Refusal) (tree : KeyringMeaning) (request
       (λ keys. materials.entries ≡ made keys request.context (take 32 random)
       (ivs_of tree.wraps (drop 32 random)))
   pub served : materials.served ≡ Direct
+
+-- The keys that the leaves of the tree went by in the run, each asked once, made the entries with
+-- the bytes behind the data key as IVs, whether it tells its keys or not.
+abbrev pub TreeGaveBy : KeyringMeaning → KeyringMeaning → EncRequestValue → List ℕ
+    → EncMaterialsValue → Type 0
+TreeGaveBy tree left request random materials =
+    AskedOnce tree.uses left.uses
+    (WrapsBy left.wraps request.context random None
+    (Ok (record { key = materials.key; entries = materials.entries })))

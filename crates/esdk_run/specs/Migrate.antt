@@ -44,7 +44,7 @@ pub record MigrateWritesFront (asked : MigrateWords) (old new : ShelfState)
   pub failed : SinkFails before after text
 
 -- Why the text wasn't written. `unwritten` says that the output is as before, as it is but where it
--- failed. Want of memory is as `FileLacksMemory` says.
+-- failed. Want of memory is as `FileFails` says.
 abbrev pub MigrateFails : MigrateWords → ShelfState → ShelfState → SinkState → SinkState → Type 0
     → Failure → Type 0
 MigrateFails asked old new before after unwritten (failures.Outside outsides.SinkFault) =

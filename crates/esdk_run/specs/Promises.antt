@@ -3,38 +3,39 @@
 -- `judged` and `ages`, follows from that and says it in a user's words. The line over a field
 -- leaves out on what it depends, which the definition says that the field names: what the objects
 -- tell, that a tree is given back and tells its keys, that none of its keyrings failed, the status.
-use Rattle.std.specs.Prelude.{◌≡◌, ℕ, ◌+◌, ◌≤◌, ◌^◌, false, Result, Ok, ◌⊎◌, Some, List, IfSome}
-use Rattle.std.specs.Prelude.{None, ◌≢◌, length, ◌<◌}
+use Rattle.std.specs.Prelude.{◌≡◌, ℕ, ◌+◌, ◌≤◌, ◌^◌, false, Result, Ok, ◌⊎◌, List, Some, None}
+use Rattle.std.specs.Prelude.{IfSome, ◌≢◌, length, ◌<◌}
 use Rattle.audit_core.specs.Messages.{Message}
 use Rattle.extract_core.specs.Extract.{most_read}
 use Rattle.header_codec.specs.Header.{no_limits}
 use Rattle.body_format.specs.declared.verdicts.Verdict.TheVariants.{Whole}
 use Rattle.job_file.specs.JobFile.{JobFile}
-use Rattle.serde_json.specs.Data.{Data}
 use Rattle.whole_input.specs.File.{most_file}
 use Rattle.whole_input.specs.Pieces.{most_piece}
+use Rattle.serde_json.specs.Data.{Data}
 use Rattle.esdk_decrypt.specs.Laws.{Written, IsWrittenFor, written_message}
 use Rattle.esdk_decrypt.specs.Told.{judged_by}
 use Rattle.esdk_fields.specs.Counts.{Stayed}
 use Rattle.esdk_fields.specs.Bytes.{AreBytes}
-use Rattle.keyring_trait.specs.Wrapping.{WrapKeyValue}
-use Rattle.keyring_trait.specs.Keyring.{KeyringMeaning}
-use Rattle.esdk_encrypt.specs.Laws.{GainsMessage, FitsMessage}
 use Rattle.context_codec.specs.Context.{KeyValue}
+use Rattle.keyring_trait.specs.Keyring.{KeyringMeaning}
+use Rattle.keyring_trait.specs.Wrapping.{WrapKeyValue}
+use Rattle.esdk_encrypt.specs.Laws.{GainsMessage, FitsMessage}
 use Rattle.esdk_args.specs.declared.request.Request.{Request}
 use Rattle.esdk_args.specs.declared.request.Request.TheVariants as requests
 use Rattle.esdk_args.specs.declared.request.WordsFault.{WordsFault}
 use Rattle.esdk_base.specs.Streams.{ClockState, OnTold}
 use Rattle.esdk_base.specs.Shelf.{Holds}
 use Rattle.esdk_list.specs.List.{listing_fault}
-use Rattle.esdk_run.specs.FilesCame.{ReadsOfWhatCame, AuditedWhatCame, BatchedWhatCame}
+use Rattle.esdk_run.specs.FilesCame.{ReadsOfWhatCame, ExtractedWhatCame, AuditedWhatCame}
+use Rattle.esdk_run.specs.FilesCame.{BatchedWhatCame}
 use Rattle.esdk_run.specs.ExtractTold.{GainsRange, NamesExtractFault, ReadsMessageFile}
 use Rattle.esdk_run.specs.ExtractTold.{ShelfAndOutputsDontFail, extracted_by, WritesOfContent}
-use Rattle.esdk_run.specs.AuditTold.{HoldsAudit, ShowsOpeners, HasShortFiles}
+use Rattle.esdk_run.specs.AuditTold.{ShowsOpeners, HoldsAudit, HasShortFiles}
 use Rattle.esdk_run.specs.EachJob.{ShowsJudgements, NothingOfBatchFails, DoesJobs}
 use Rattle.esdk_run.specs.Objects.{Objects, Unchanged, same_streams}
-use Rattle.esdk_run.specs.ResealTold.{ReadsBoth, reseal_reader, reseal_writer, ShowsResealed}
-use Rattle.esdk_run.specs.ResealTold.{OfItsKeys, NamesResealFault, ShelfAndEntropyDontFail}
+use Rattle.esdk_run.specs.ResealTold.{NamesResealFault, OfItsKeys, ShowsResealed, ReadsBoth}
+use Rattle.esdk_run.specs.ResealTold.{reseal_reader, reseal_writer, ShelfAndEntropyDontFail}
 use Rattle.esdk_run.specs.ResealTold.{CanBeResealed, ShowsRotated}
 use Rattle.esdk_run.specs.Run.{AgreesWith, draws, reads_input, reads_shelf, is_batch}
 use Rattle.esdk_run.specs.Served.{Generates, ShowsLimits, HoldsJobs}
@@ -47,9 +48,9 @@ use Rattle.esdk_run.specs.Unarmoured.{outlook_of}
 use Rattle.esdk_run.specs.WhatCame.{SealedWhatCame, OpenedWhatCame}
 use Rattle.esdk_run.specs.Batch.{ChangesOnlyWritten}
 use Rattle.esdk_run.specs.Ages.{ShowsAges}
-use Rattle.esdk_run.specs.Encrypt.{run_writer, refusal_asked}
 use Rattle.esdk_run.specs.ArmouredMessage.{output_form}
 use Rattle.esdk_run.specs.Pairs.{context_in}
+use Rattle.esdk_run.specs.Encrypt.{run_writer, refusal_asked}
 use Rattle.esdk_run.specs.EarlyEnd.{LeavesMessageFront}
 use Rattle.esdk_run.specs.Read.{SaysWhatIsReadAs}
 use Rattle.esdk_run.specs.Decrypt.{reader_of}
@@ -102,8 +103,8 @@ pub record Promises (trees : Trees) (words : Words) (before after : Objects)
   pub encrypt_tree : On requests.Encrypt words
       (λ asked. ComesBack trees asked.pairs asked.keyring before.shelf after.shelf code)
   -- `encrypt`: over any objects, once it is done the output gained the message of the bytes that
-  -- came from the input to its end, under the keys of the tree that came from the shelf, with the
-  -- bytes that were drawn.
+  -- came from the input to its end, under the keys of the tree that came from the shelf, and under
+  -- those that its leaves went by, with the bytes that were drawn.
   pub sealed : On requests.Encrypt words
       (λ asked. code ≡ 0 → SealedWhatCame trees asked before after)
   -- `encrypt`: once it is done, an output that tells its bytes gained the message of the input's
@@ -138,7 +139,7 @@ pub record Promises (trees : Trees) (words : Words) (before after : Objects)
       (λ asked. ComesBack trees asked.pairs asked.keyring before.shelf after.shelf code)
   -- `decrypt`: over any objects, once it is done the bytes that came from the input to its end, or
   -- those that they give as armour text, are a whole message to the keys of the tree that came from
-  -- the shelf, and the output gained its content.
+  -- the shelf, and to those that its leaves went by, and the output gained its content.
   pub opened : On requests.Decrypt words
       (λ asked. code ≡ 0 → OpenedWhatCame trees asked before after)
   -- `decrypt`: what the keys of the tree read of the bytes taken is said, whatever the input and
@@ -185,7 +186,8 @@ pub record Promises (trees : Trees) (words : Words) (before after : Objects)
   -- `batch`: an entry of the cache is as old as the clock says. The moments of the journal's lines
   -- are, in order, among those that the clock gave.
   pub ages : On requests.Batch words (λ name.
-      WasRun code → ShowsAges name before.shelf before.output after.output time.before time.after)
+      WasRun code → ShowsAges name before.shelf after.shelf before.output after.output time.before
+      time.after)
   -- `batch`: over any objects, once it is reported, of any files that agree with what the reads
   -- gave each job comes to what is said of it. Behind the job file and the keyring file the shelf
   -- was called for the files of the jobs alone; the file of each job was finished once, for those
@@ -225,10 +227,9 @@ pub record Promises (trees : Trees) (words : Words) (before after : Objects)
       (λ asked. ComesBackBefore trees asked.pairs asked.keyring before.shelf after.shelf code)
   -- `extract`: over any objects, once it is done the output gained the range of any bytes that
   -- agree with what the reads of the message's file gave, under the keys of the tree that came from
-  -- the shelf.
+  -- the shelf, and under those that its leaves went by.
   pub extracted : On requests.Extract words
-      (λ asked. code ≡ 0 → ReadsOfWhatCame trees asked before after
-      (λ reader bytes. GainsRange reader asked bytes before after))
+      (λ asked. code ≡ 0 → ExtractedWhatCame trees asked before after)
   -- `extract`: and where it ends with a fault, that is the one of these bytes.
   pub extract_fault : On requests.Extract words
       (λ asked. code ≡ 1 → ReadsOfWhatCame trees asked before after

@@ -15,7 +15,7 @@ use Rattle.reseal_core.specs.declared.errors.InputError.TheVariants as errors
 use Rattle.reseal_core.specs.Reseal.{ResealEnds, Resealing, ResealsInput}
 use Rattle.esdk_report.specs.declared.failure.Failure.{Failure}
 use Rattle.esdk_report.specs.declared.failure.Failure.TheVariants as failures
-use Rattle.esdk_run.specs.Decrypt.{TreeFinds, TreeFindsNone}
+use Rattle.esdk_run.specs.Decrypt.{tree_answering}
 use Rattle.esdk_run.specs.FileReading.{FileFails}
 use Rattle.esdk_run.specs.Giving.{TreeGives, refusal_over}
 use Rattle.esdk_run.specs.Objects.{Objects, Unchanged, same_streams}
@@ -43,11 +43,7 @@ abbrev pub reseal_asked : ResealWords → List KeyValue → KeyringMeaning → K
     → KeyringMeaning → Resealing
 reseal_asked asked given tree left second = record {
   opening = record {
-    manager = record {
-      finds = TreeFinds (required_in asked.pairs) tree left;
-      finds_none =
-          TreeFindsNone (required_in asked.pairs) tree left;
-    };
+    manager = tree_answering (required_in asked.pairs) tree left;
     settings = reseal_settings asked;
     given = given;
   };
@@ -75,8 +71,8 @@ pub record HasSecond (trees : Trees) (asked : ResealWords) (between new : ShelfS
   pub keys : List WrapKeyValue
   pub told : second.keys ≡ Some keys
 
--- The second file gives no tree for this reason; want of memory is as `FileLacksMemory` says. The
--- first tree is given back as it was.
+-- The second file gives no tree for this reason; want of memory is as `FileFails` says. The first
+-- tree is given back as it was.
 pub record HasNoSecond (trees : Trees) (asked : ResealWords) (old new : ShelfState)
     (untouched : Type 0) (failure : Failure) : Type 0 where
   pub given : List KeyValue

@@ -15,6 +15,7 @@ use Rattle.cmm_caching.specs.Store.{use_bytes}
 use Rattle.job_file.specs.declared.job.Job.{Job}
 use Rattle.job_file.specs.JobFile.{JobFile}
 use Rattle.whole_input.specs.File.{most_file}
+use Rattle.whole_input.specs.FileReads.{Grows}
 use Rattle.batch_report.specs.declared.job_lines.JobLine.{JobLine}
 use Rattle.batch_report.specs.BatchReport.{report_of}
 use Rattle.esdk_batch.specs.Batch.{length_of}
@@ -54,12 +55,14 @@ AreServedWithin (Some limits) jobs lines =
     × (bytes_shown n jobs lines ≤ limits.bytes)
 
 -- The output gained a report of the jobs of the file of this name, one line for each, and they are
--- served within the limits that the file sets.
+-- served within the limits that the file sets. Behind the reads that gave it the calls of the shelf
+-- were only added to.
 pub record ShowsLimits (name : List ℕ) (before after : Objects) : Type 0 where
   pub file : JobFile
   pub between : ShelfState
   pub lines : List JobLine
   pub jobs : JobsAre before.shelf between name file
+  pub grown : Grows between.calls after.shelf.calls
   pub gained : Appends before.output.written after.output.written (report_of lines)
   pub each : length lines ≡ length file.jobs
   pub within : AreServedWithin file.cache file.jobs lines

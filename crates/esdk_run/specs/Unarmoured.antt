@@ -1,7 +1,7 @@
 -- An input that is read as armour text, where the words ask for that: what it gives, and how a
 -- command ends that reads it so.
 use Rattle.std.specs.Prelude.{◌≡◌, ◌⊎◌, ℕ, ◌<◌, ◌≤◌, ◌^◌, Bool, true, false, List, [], ◌++◌, length}
-use Rattle.std.specs.Prelude.{Option}
+use Rattle.std.specs.Prelude.{None, Option}
 use Rattle.std.specs.Option.{option_map}
 use Rattle.esdk_fields.specs.Counts.{Rose, Stayed}
 use Rattle.esdk_fields.specs.declared.faults.Fault.TheVariants.{BadArmour, Truncated}
@@ -37,10 +37,15 @@ abbrev pub NoMoreTaken : (text read : List ℕ) → Type 0
 NoMoreTaken text read = AllRead text read
     ⊎ APieceBehind (λ front. length (unarmoured front).bytes < length read) text
 
+-- all bytes that the text gives were read, and no group of it is bad
+abbrev pub AllGood : (text read : List ℕ) → Type 0
+AllGood text read = AllRead text read × ((unarmoured text).bad ≡ None)
+
 -- At most 2^62 bytes of the input's text were taken, and of what the text gives this is so. That
 -- was seen as it stands behind the whole text at first, and was read on; where no read of the text
 -- failed, none of this did. The bytes that were read are the first that the text gives which came,
--- and `Reach` says how far of it was taken for them.
+-- and `Reach` says how far of it was taken for them. No group was bad before the last piece of the
+-- text was taken.
 pub record ReadsText (Reach : List ℕ → List ℕ → Type 0) (input taken : SourceState)
     (So : SourceState → SourceState → Type 0) : Type 0 where
   pub text : List ℕ
@@ -55,6 +60,7 @@ pub record ReadsText (Reach : List ℕ → List ℕ → Type 0) (input taken : S
   pub bytes : (unarmoured text).bytes ≡ read.came ++ rest
   pub count : read.given ≡ length read.came
   pub reach : Reach text read.came
+  pub good : APieceBehind (λ front. (unarmoured front).bad ≡ None) text
   pub stayed : Stayed input.faults taken.faults → Stayed seen.faults read.faults
   pub so : So seen read
 
@@ -99,7 +105,7 @@ ReadsAll false input taken So = So input taken
 -- Why a command ends that reads a text. This is so of what the text gives: `So`, where it ends the
 -- command by itself; `All`, where all of it came and has no fault; `Sound`, where what came of it
 -- has none. M27 comes behind all of it, and M10 and X6 by the text's end; X1 comes where a read of
--- the text failed, and behind all bytes that the text taken gives.
+-- the text failed, and behind all bytes that the text taken gives, of which no group is bad.
 abbrev pub TextEnds : Failure → SourceState → SourceState
     → (So All Sound : SourceState → SourceState → Type 0) → Type 0
 TextEnds (failures.Fault (BadArmour number)) input taken So All Sound =
@@ -107,7 +113,7 @@ TextEnds (failures.Fault (BadArmour number)) input taken So All Sound =
 TextEnds (failures.Fault Truncated) input taken So All Sound =
     EndsText input taken Whole × ReadsText AllRead input taken So
 TextEnds (failures.Outside SourceFault) input taken So All Sound =
-    Rose input.faults taken.faults × ReadsText AllRead input taken Sound
+    Rose input.faults taken.faults × ReadsText AllGood input taken Sound
 TextEnds (failures.Outside InputTooLong) input taken So All Sound =
     IsLongText input taken × ReadsText AllRead input taken Sound
 TextEnds failure input taken So All Sound = ReadsText NoMoreTaken input taken So

@@ -10,8 +10,8 @@ use Rattle.esdk_base.specs.Streams.{SourceState, most_input}
 use Rattle.armour_core.specs.declared.reader.ArmourReader.{ArmourReader}
 use Rattle.armour_core.specs.declared.text_end.TextEnd.{TextEnd}
 use Rattle.armour_core.specs.declared.text_end.TextEnd.TheVariants.{Bad, TooLong, Whole}
-use Rattle.armour_core.specs.ReaderOutlook.{Awaits, FailsAs, TextIsOver, gives, reader_outlook}
-use Rattle.armour_core.specs.ReaderOutlook.{told_end}
+use Rattle.armour_core.specs.ReaderOutlook.{Awaits, FailsAs, IsReadSoFar, TextIsOver, gives}
+use Rattle.armour_core.specs.ReaderOutlook.{reader_outlook, told_end}
 use Rattle.esdk_decrypt.specs.declared.errors.DecryptError.{DecryptError}
 use Rattle.esdk_decrypt.specs.declared.errors.DecryptError.TheVariants as errors
 
@@ -50,7 +50,7 @@ SeesAs before now old new (Err (errors.Fault (BadArmour number))) =
 SeesAs before now old new (Err (errors.Outside InputTooLong)) =
     SeesTextEnd before now old new TooLong × (new.pieces.taken ≡ most_input) × IsReadOut new
 SeesAs before now old new (Err (errors.Outside SourceFault)) =
-    Rose before.faults now.faults × IsReadOut new
+    Rose before.faults now.faults × IsReadSoFar new
 SeesAs before now old new (Err error) = ⊥
 
 -- The text was taken to its end, where its bytes are `sound`, and else no further.

@@ -10,6 +10,7 @@ use Rattle.esdk_base.specs.Streams.{ShelfState, SinkState}
 use Rattle.armour_core.specs.declared.text_end.TextEnd.TheVariants as ends
 use Rattle.context_codec.specs.Context.{KeyValue}
 use Rattle.keyring_trait.specs.Keyring.{KeyringMeaning}
+use Rattle.keyring_trait.specs.Uses.{AskedOnce}
 use Rattle.keyring_trait.specs.Wrapping.{WrapKeyValue}
 use Rattle.body_format.specs.declared.verdicts.Verdict.TheVariants.{Whole}
 use Rattle.message_format.specs.Judgement.{content}
@@ -36,17 +37,23 @@ pub record TreeCame (trees : Trees) (name : List ℕ) (old new : ShelfState)
 
 -- The output gained the message of the bytes that came from the input, whose end was seen, in the
 -- form that the words ask for: over the context of the words, under the keys of the tree that came,
--- where that tells them, and with the bytes that were drawn.
+-- where that tells them, and with the bytes that were drawn. It is also so under the keys that the
+-- leaves of this tree went by in the run, each asked once, where they show them: a raw key, or the
+-- key that was read for this call.
 pub record SealedWhatCame (trees : Trees) (asked : EncryptWords) (before after : Objects)
     : Type 0 where
   pub context : List KeyValue
   pub pairs : context_in asked.pairs ≡ Ok context
   pub tree : KeyringMeaning
+  pub left : KeyringMeaning
+  pub kept : trees.kept ≡ Some left
   pub keyring : TreeCame trees asked.keyring before.shelf after.shelf tree
   pub sealed : (keys : List WrapKeyValue) → tree.keys ≡ Some keys
       → SealsWhatCame (output_form asked.armour) (run_writer asked context keys) before.input
-      after.input
-      before.output after.output before.entropy after.entropy
+      after.input before.output after.output before.entropy after.entropy
+  pub by_use : AskedOnce tree.uses left.uses
+      (λ keys. SealsWhatCame (output_form asked.armour) (run_writer asked context keys) before.input
+      after.input before.output after.output before.entropy after.entropy)
 
 -- ---- `decrypt`
 
@@ -58,15 +65,17 @@ pub record OpensAllThatCame (reader : Reader) (bytes : List ℕ) (output put : S
 
 -- The bytes that came from the input, whose end was seen, are a whole message to who has the keys
 -- of the tree that came, where that tells them and none of its keyrings failed (none of a steady
--- tree fails); and the output gained its content. Where the words ask for armour, the bytes that
--- came are a text whose groups are all whole and good, and the bytes that it gives are that
--- message.
+-- tree fails); and the output gained its content. So are they, whether one failed or not, to who
+-- has the keys that the leaves of this tree went by in the run, each asked once, where they show
+-- them. Where the words ask for armour, the bytes that came are a text whose groups are all whole
+-- and good, and the bytes that it gives are that message.
 pub record OpenedWhatCame (trees : Trees) (asked : DecryptWords) (before after : Objects)
     : Type 0 where
   pub given : List KeyValue
   pub pairs : context_in asked.pairs ≡ Ok given
   pub tree : KeyringMeaning
   pub left : KeyringMeaning
+  pub kept : trees.kept ≡ Some left
   pub steady : tree.steady ≡ true → Stayed tree.faults left.faults
   pub keyring : TreeCame trees asked.keyring before.shelf after.shelf tree
   pub bytes : List ℕ
@@ -76,3 +85,6 @@ pub record OpenedWhatCame (trees : Trees) (asked : DecryptWords) (before after :
   pub opened : (keys : List WrapKeyValue) → tree.keys ≡ Some keys → Stayed tree.faults left.faults
       → OpensAllThatCame (reader_of asked given keys) (outlook_of asked.armour bytes).bytes
       before.output after.output
+  pub by_use : AskedOnce tree.uses left.uses
+      (λ keys. OpensAllThatCame (reader_of asked given keys) (outlook_of asked.armour bytes).bytes
+      before.output after.output)

@@ -60,8 +60,8 @@ pub fn run_batch<P: Keyring, O: Sink, R: Sink, F: Shelf, W: Entropy, C: Clock>(
         (as_before ⊤ (output.new ≡ output.old) (shelf.new ≡ shelf.old) (entropy.new ≡ entropy.old))
         result.status.code }
     ensures ages { (result.status.code ≡ 0) ⊎ (result.status.code ≡ 7)
-        → ShowsAges name.now (F.state shelf.old) (O.state output.old) (O.state output.new)
-        (C.state clock.old) (C.state clock.new) }
+        → ShowsAges name.now (F.state shelf.old) (F.state shelf.new)
+        (O.state output.old) (O.state output.new) (C.state clock.old) (C.state clock.new) }
 {
     let Outcome { ended, tree } = batch_jobs(
         alloc,
@@ -106,7 +106,8 @@ fn batch_jobs<P: Keyring, O: Sink, F: Shelf, W: Entropy, C: Clock>(
         (objects input (O.state output.new) (F.state shelf.new) (W.state entropy.new) reported)
         (output.new ≡ output.old) (entropy.new ≡ entropy.old)) }
     ensures ages { IfOk result.ended (λ _. ShowsAges name.now (F.state shelf.old)
-        (O.state output.old) (O.state output.new) (C.state clock.old) (C.state clock.new)) }
+        (F.state shelf.new) (O.state output.old) (O.state output.new)
+        (C.state clock.old) (C.state clock.new)) }
 {
     let Outcome { ended, tree } = run_job_file(alloc, name, shelf, entropy, clock, plugs);
     let report = match ended {
@@ -168,7 +169,7 @@ fn run_job_file<P: Keyring, F: Shelf, W: Entropy, C: Clock>(
         (JobsFail (trees_of P.meaning plugs.items result.tree) name.now
         (F.state shelf.old) (F.state shelf.new) (entropy.new ≡ entropy.old)) }
     ensures ages { IfOk result.ended (ServesFileInTime name.now (F.state shelf.old)
-        (C.state clock.old) (C.state clock.new)) }
+        (F.state shelf.new) (C.state clock.old) (C.state clock.new)) }
 {
     let jobs = match read_job_file(alloc, shelf, name) {
         Ok(jobs) => jobs,

@@ -33,8 +33,8 @@ pub struct Prepared<P> {
 /// files.
 ///
 /// The pairs are read first (Q3 and Q2, as `context_of` says), then the keyring file (as
-/// `read_keyring` says). `Memory` where memory runs out: for the pairs, and then no file is read, or
-/// for the keyring file.
+/// `read_keyring` says). `Memory` where memory runs out: for the pairs, and then no file is read,
+/// or for the keyring file.
 pub fn prepare<P: Keyring, F: Shelf>(
     alloc: Global,
     pairs: &PairWords,

@@ -1,8 +1,9 @@
--- There are no jobs to run, or memory ran out behind both files.
+-- There are no jobs to run, or memory ran out behind both files; or they were run in time.
 use Rattle.std.proofs.Common.{◌≡◌, None, Some, refl}
 use Rattle.esdk_base.specs.Streams.{ShelfState}
 use Rattle.multi_keyring.specs.Tree.{tree_meaning}
 use Rattle.esdk_run.specs.Trees.{trees_of}
+use Rattle.esdk_run.proofs.Ages.{serves_file}
 use Rattle.esdk_run.proofs.Batches.{no_jobs_file, no_jobs_tree, some_turns}
 use Rattle.esdk_run.proofs.batch.run_job_file.Goals as goal
 
@@ -38,3 +39,10 @@ returns-clause-fails g c =
     (c.run_over.new.entropy ≡ c.args.entropy.now) c.in-Ok.jobs (tree_meaning g.P.Keyring.meaning c.in-Ok-read_keyring.tree) c.in-Ok.ensures.jobs c.keyring.ensures
     c.in-Ok-read_keyring.ensures.tree c.in-Ok-read_keyring.ensures.lawful c.read_keyring.ensures.stays c.in-Ok-run_over.ensures.goes c.run_over.ensures.others c.run_over.ensures.told
     c.run_over.ensures.calls
+
+pub returns-in-Ok-ended-clause-ages : goal.returns-in-Ok-ended-clause-ages
+returns-in-Ok-ended-clause-ages g c =
+    rw c.in-Ok-ended.is at
+    (serves_file c.args.name.now c.keyring.result.now _ (g.F.Shelf.state c.args.shelf.now) (g.F.Shelf.state c.read_job_file.new.shelf) (g.F.Shelf.state c.read_keyring.new.shelf)
+    (g.F.Shelf.state c.run_over.new.shelf) c.in-Ok.jobs _ _ c.in-Ok-run_over.outcome.ended c.in-Ok.ensures.jobs c.in-Ok-read_keyring.ensures.tree.file.read c.run_over.ensures.calls
+    c.in-Ok-run_over.ensures.ages)
