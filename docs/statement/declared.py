@@ -32,6 +32,18 @@ def clauses_of(text):
     return found, " ".join(left) + text[at:]
 
 
+def kept(text, labels):
+    """A contract's text without the clauses that have other labels, and without the comments over these."""
+    at, found = 0, []
+    while match := CLAUSE.search(text, at):
+        stop, start = end_of(text, match.end() - 1), text.rindex("\n", 0, match.start())
+        while re.fullmatch(r" *(//.*)?", above := text[text.rindex("\n", 0, start) + 1:start]):
+            start -= len(above) + 1
+        found.append(text[at:stop if match[2] and match[2].strip() in labels else max(at, start)])
+        at = stop
+    return "".join(found) + text[at:]
+
+
 def bare(text):
     """A text without its comments and attributes."""
     return re.sub(r"^ *(//|#\[).*", "", text, flags=re.M)
@@ -137,12 +149,12 @@ class Rust:
             yield from model[start:end_of(model, start) + 1].split("\n")
         yield "}"
 
-    def contract(self, name, clause=None):
-        """The contract of a function; or one clause of it, with the types of what that clause names."""
+    def contract(self, name, labels=None):
+        """The contract of a function; or its clauses of these labels, with the types of what they name."""
         start = re.search(rf"^pub fn {name}\b", self.text, re.M).start()
         text = self.text[start:self.text.index("\n{\n", start)]
         clauses, left = clauses_of(bare(text))
-        terms = [term for label, term in clauses if clause in (None, label)]
+        terms = [term for label, term in clauses if not labels or label in labels]
         generics, _, signature = left.partition("(")
         inputs, _, output = signature.rpartition("->")
         bounds = dict(re.findall(r"(\w+): ([^,>]+)", generics))
@@ -151,5 +163,6 @@ class Rust:
         beside = " ".join(told[each] for told in (bounds, types) for each in told if each in named)
         beside = [each for each in TYPE.findall(beside) if each not in bounds]
         item = Declared(self.scope(), name, "contract", terms[::-1], beside)
-        item.bound, item.comment, item.lines = {*types, *bounds}, self.comment(start), text.split("\n")
+        item.bound, item.comment = {*types, *bounds}, self.comment(start)
+        item.lines = (kept(text, labels) if labels else text).split("\n")
         return item

@@ -1,4 +1,4 @@
-"""docs/AUDIT.md, which is written by hand: how many lines its files have, and what it quotes of them."""
+"""docs/AUDIT.md, which is written by hand: how many lines its files have, where definitions stand in them, and what it quotes."""
 
 import re
 
@@ -7,6 +7,7 @@ from definitions import TOP, fail
 GUIDE = TOP / "docs/AUDIT.md"
 FILE = re.compile(r"`((?:\w+/)*)(\w+\.(?:antt|rt))`(?:( \(|, )\d+(?=\)| lines))?")
 BLOCK = re.compile(r"^```\n(.*?)^```", re.MULTILINE | re.DOTALL)
+LINK = re.compile(r"\[`(\w+)`\]\(\.\./crates/([\w/]+\.(?:antt|rt))#L\d+\)")
 EXAMPLE = re.compile(r"\| `([^`]+)` \(`(\w+/specs/\w+\.antt)`\) \|")
 
 
@@ -29,8 +30,21 @@ def counted(text):
     return FILE.sub(count, text)
 
 
+def linked(text):
+    """The page with the line at which each definition stands that it links to."""
+
+    def link(match):
+        name, path = match.groups()
+        found = re.search(rf"^(?:abbrev pub|unfoldable pub|pub record|pub fn|fn) {name}\b", lines_of(path), re.MULTILINE)
+        if not found:
+            fail(f"docs/AUDIT.md links to what crates/{path} doesn't define: {name}")
+        return f"[`{name}`](../crates/{path}#L{found.string.count(chr(10), 0, found.start()) + 1})"
+
+    return LINK.sub(link, text)
+
+
 def guide():
-    """The page as it is to be. It is said of a quotation that no source has, and then nothing is printed or written."""
+    """The page as it is to be. It is said of what it quotes or links to and no source has, and then nothing is printed or written."""
     text = GUIDE.read_text()
     for quoted, path in EXAMPLE.findall(text):
         if quoted not in lines_of(path):
@@ -39,4 +53,4 @@ def guide():
     for block in BLOCK.findall(text):
         if block not in sources:
             fail(f"docs/AUDIT.md quotes what no file of specs/ has: {block.splitlines()[0]}")
-    return counted(text)
+    return linked(counted(text))

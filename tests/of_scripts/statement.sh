@@ -71,6 +71,16 @@ stale_statements() {
     ended "other counts in docs/AUDIT.md" 1
     want "other counts in docs/AUDIT.md: they are named" holds output "docs/AUDIT.md isn't current: docs/trusted --write writes it anew"
     run statement/docs/trusted --write
+    sed -i '0,/#L[0-9]*)/s//#L1)/' statement/docs/AUDIT.md
+    run statement/docs/trusted --check
+    ended "another line in a link of docs/AUDIT.md" 1
+    want "another line in a link of docs/AUDIT.md: it is named" holds output "docs/AUDIT.md isn't current: docs/trusted --write writes it anew"
+    run statement/docs/trusted --write
+    sed -i 's/\[`effect_of`\]/[`effect_of_none`]/' statement/docs/AUDIT.md
+    run statement/docs/trusted --check
+    ended "a link of docs/AUDIT.md to what no source defines" 1
+    want "a link of docs/AUDIT.md to what no source defines is said" grep -q 'docs/AUDIT.md links to what .* effect_of_none' report
+    sed -i 's/\[`effect_of_none`\]/[`effect_of`]/' statement/docs/AUDIT.md
     sed -i 's/^lock_fault h only key =$/lock_fault h key only =/' statement/docs/AUDIT.md
     run statement/docs/trusted --check
     ended "what docs/AUDIT.md quotes and no source has" 1

@@ -35,8 +35,8 @@ use Rattle.esdk_program.specs.Effect.{RunComesTo, Effect, KeyringFailed}
 use Rattle.esdk_program.specs.Program.{audit_effect, audited_all, audit_lines_effect, messages_in, with_file, with_read, with_told, with_value_read}
 use Rattle.esdk_program.specs.World.{IsOf, Run, World}
 use Rattle.esdk_program.proofs.Ends.{gains_none, refuses, same_none, stops, stops_unwritten}
-use Rattle.esdk_program.proofs.Files.{IsPart, file_between, file_taken, part_all, part_second}
-use Rattle.esdk_program.proofs.Messages.{gave_more, message_lacks, messages_came}
+use Rattle.esdk_program.proofs.Files.{IsPart, file_between, file_taken, gave_more, part_all, part_second}
+use Rattle.esdk_program.proofs.Messages.{message_lacks, messages_came}
 use Rattle.esdk_program.proofs.Trees.{IsBehind, behind_none, file_fails, second_fails}
 
 -- ---- what the shelf is like behind messages
@@ -177,7 +177,7 @@ module _ (r : Run) (name : List ℕ) (unchanged : Unchanged) (world : World) (of
       with_lines : RunComesTo r world (audit_lines_effect count found) → Done
       with_lines so = with_keys (λ keys told. elim (cases_lt left.faults (counted audits.tree.faults 1)) [
         | inl stayed ↦ subst (RunComesTo r world) (sym (lines_are keys told (omega (arith, stayed, audits.has.faults, faults_left)))) so
-        | inr rose ↦ inr (inr (inr (inl (keyring_failed rose))))
+        | inr rose ↦ inr (inr (inr (keyring_failed rose)))
       ])
 
   all_found : (count : ℕ) (found : List Audited) → FindsAll r.trees name r.before.shelf r.after.shelf count found → RunComesTo r world (audit_lines_effect count found) → Done

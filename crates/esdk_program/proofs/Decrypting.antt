@@ -218,7 +218,7 @@ module _ (r : Run) (asked : DecryptWords) (unchanged : Unchanged) (world : World
       let all = reads given keys (record { left = left; pairs = has.given.made; kept = has.kept; told = has.goes.keys ∙ told }) in
       elim (cases_lt all.2.left.faults (counted all.0.faults 1)) [
         | inl stayed ↦ read_does r world of (reader_of asked given keys) asked.armour (all.2.so stayed)
-        | inr rose ↦ inr (inr (inr (inl (record {
+        | inr rose ↦ inr (inr (inr (record {
           name = asked.keyring;
           bytes = all.1.bytes;
           tree = all.0;
@@ -227,7 +227,7 @@ module _ (r : Run) (asked : DecryptWords) (unchanged : Unchanged) (world : World
           read = all.1.is;
           kept = all.2.kept;
           rose = rose;
-        }))))
+        })))
       ]
 
   with_tree_does : (given : List KeyValue) (tree left : KeyringMeaning) → HasTree r.trees asked.pairs asked.keyring r.before.shelf r.after.shelf given tree left → Done

@@ -173,7 +173,7 @@ module _ (r : Run) (asked : ExtractWords) (unchanged : Unchanged) (world : World
       | inl stayed ↦ by_file r world of asked t.middle (extract_reader asked t.given keys) unchanged.output same t.files t.has.file.file.faults
           (reads_in_row asked.keyring 0 (t.has.file.file.read.pieces ++ [] ∷ []), t.has.file.file.read.calls) grown (world.files asked.from) refl
           (reader_ended asked t.middle r.before r.after unchanged.output r.code t.given t.given t.tree t.left keys refl told stayed ended)
-      | inr rose ↦ inr (inr (inr (inl (keyring_failed t grown rose))))
+      | inr rose ↦ inr (inr (inr (keyring_failed t grown rose)))
     ]
 
     with_tree_does : Done

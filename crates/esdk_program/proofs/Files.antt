@@ -1,9 +1,9 @@
 -- What a file holds that a run read from its front to its end, and what a file is that it didn't read.
-use Rattle.std.proofs.Common.{◌≡◌, ◌∙◌, ℕ, ◌+◌, ◌<◌, ◌≤◌, List, [], ◌∷◌, ◌++◌, length, drop, Bool, Option, Some, None, Result, Ok, Err, refl, sym, ap, subst, append_assoc, le-leb}
+use Rattle.std.proofs.Common.{◌≡◌, ◌∙◌, ℕ, ◌+◌, ◌<◌, ◌≤◌, List, [], ◌∷◌, ◌++◌, length, drop, Bool, Option, Some, None, Result, Ok, Err, refl, sym, ap, subst, append_assoc, arith, le-leb, length-append}
 use Rattle.std.specs.List.{All, Contains, concat}
 use Rattle.std.proofs.lemmas.Bool.{lt-leb}
 use Rattle.std.proofs.lemmas.List.{append_cancel_left}
-use Rattle.std.proofs.lemmas.List.Elements.{All-cons, All-contains, All-head, All-nil, All-tail, All-weaker}
+use Rattle.std.proofs.lemmas.List.Elements.{All-cons, All-contains, All-head, All-nil, All-tail, All-weaker, Contains-append_left, Contains-push}
 use Rattle.esdk_args.specs.declared.pair_words.PairWord.{PairWord}
 use Rattle.esdk_fields.specs.declared.refusals.FileRefusal.{FileRefusal}
 use Rattle.esdk_fields.specs.declared.refusals.FileRefusal.TheVariants.{FileTooLong}
@@ -13,8 +13,8 @@ use Rattle.esdk_base.specs.Streams.{ShelfState}
 use Rattle.context_codec.specs.Context.{KeyValue}
 use Rattle.keyring_trait.specs.Keyring.{KeyringMeaning}
 use Rattle.whole_input.specs.File.{most_file}
-use Rattle.whole_input.specs.FileReads.{AgreesWithCall, AgreesWithRead, Grows, IsReadAs, ReadsWholeFile, reads_in_row}
-use Rattle.whole_input.proofs.Agreeing.{grows_more, grows_none}
+use Rattle.whole_input.specs.FileReads.{AgreesWithCall, AgreesWithRead, Grows, IsReadAs, ReadsRow, ReadsWholeFile, reads_in_row}
+use Rattle.whole_input.proofs.Agreeing.{grows_more, grows_none, row_read}
 use Rattle.esdk_report.specs.declared.failure.Failure.TheVariants as failures
 use Rattle.esdk_run.specs.Pairs.{context_in}
 use Rattle.esdk_run.specs.Trees.{TreeReading, Trees}
@@ -132,6 +132,24 @@ file_between files name bytes old new a b are before behind read =
 -- in all of the run
 pub whole_file : (files : List ℕ → Option (List ℕ)) (name bytes : List ℕ) (old new : ShelfState) → FilesAre old new files → ReadsWholeFile name old.calls new.calls bytes → files name ≡ Some bytes
 whole_file files name bytes old new are read = file_between files name bytes old new old.calls new.calls are (grows_none old.calls) (grows_none new.calls) read
+
+pub read_first : (call : ShelfCall) (calls : List ShelfCall) → Contains (call ∷ calls) call
+read_first call calls = Contains-append_left (call ∷ []) calls call (Contains-push [] call)
+
+-- a file that gave something, and as much as this
+pub gave_more : (files : List ℕ → Option (List ℕ)) (name bytes : List ℕ) (a b : List ShelfCall) → IsPart files a b → (row : ReadsRow name 0 a b bytes) → 0 < length bytes
+    → (f : List ℕ) × (files name ≡ Some f) × (length bytes ≤ length f)
+unfolding reads_in_row
+gave_more files name bytes a b part row some = by_pieces row.pieces row.calls row.all
+  where
+    as_long : (f : List ℕ) → files name ≡ Some f → length bytes ≤ length f
+    as_long f is = subst (λ (x : List ℕ). length bytes ≤ length x) (sym (row_read name 0 a b bytes f row (part_read files name f a b part is))) (omega (arith, length-append bytes (drop (0 + length bytes) f)))
+
+    by_pieces : (pieces : List (List ℕ)) → b ≡ a ++ reads_in_row name 0 pieces → bytes ≡ concat pieces → (f : List ℕ) × (files name ≡ Some f) × (length bytes ≤ length f)
+    by_pieces [] calls all = absurd (let none : 0 < length {A = ℕ} [] = subst (λ (x : List ℕ). 0 < length x) all some in omega (arith, none))
+    by_pieces (piece ∷ more) calls all =
+        let there = part_there files name a b 0 piece part (reads_in_row name 0 (piece ∷ more)) calls (read_first (reads name 0 piece) (reads_in_row name (0 + length piece) more)) in
+        (there.0, there.1, as_long there.0 there.1)
 
 -- ---- what the program does with it
 

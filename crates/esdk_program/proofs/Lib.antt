@@ -15,4 +15,11 @@ mod Resealed
 mod Messages
 mod Auditing
 mod Programs
+mod OnlyReads
+mod Keeping
 mod RoundTrip
+mod Listed
+mod Opened
+mod Rotation
+mod SlotsOfText
+mod TextRanges

@@ -1,8 +1,7 @@
 -- What is found of messages by what came of their files is what their files say.
-use Rattle.std.proofs.Common.{◌≡◌, ◌∙◌, ℕ, ◌+◌, ◌<◌, ◌≤◌, List, [], ◌∷◌, ◌++◌, length, map, drop, Option, Some, None, refl, sym, ap, subst, arith, append-nil, length-append}
-use Rattle.std.specs.List.{Contains, concat}
+use Rattle.std.proofs.Common.{◌≡◌, ◌∙◌, ℕ, ◌+◌, ◌≤◌, List, [], ◌∷◌, ◌++◌, length, map, drop, Option, Some, None, refl, sym, ap, arith, append-nil}
+use Rattle.std.specs.List.{concat}
 use Rattle.std.proofs.lemmas.List.{drop_all}
-use Rattle.std.proofs.lemmas.List.Elements.{Contains-append_left, Contains-push}
 use Rattle.esdk_fields.specs.Place.{followed, start}
 use Rattle.esdk_fields.specs.Reading.{Reading, Read, Refused, Wanting}
 use Rattle.esdk_fields.proofs.Fronts.{fault_stays, value_stays}
@@ -19,7 +18,7 @@ use Rattle.whole_input.proofs.Agreeing.{end_read, grows_more, row_read}
 use Rattle.audit_core.specs.MessageFiles.{HaveCome}
 use Rattle.audit_core.specs.Messages.{Message, audited, audited_header, audited_reading}
 use Rattle.esdk_program.specs.Program.{messages_in, with_message}
-use Rattle.esdk_program.proofs.Files.{IsPart, part_first, part_read, part_second, part_there}
+use Rattle.esdk_program.proofs.Files.{IsPart, part_first, part_read, part_second, part_there, read_first}
 
 -- ---- a message
 
@@ -49,9 +48,6 @@ wanting_first : header no_limits (start []) ≡ Wanting
 unfolding header opening
 wanting_first = refl
 
-read_first : (call : ShelfCall) (calls : List ShelfCall) → Contains (call ∷ calls) call
-read_first call calls = Contains-append_left (call ∷ []) calls call (Contains-push [] call)
-
 -- a read of it gave something, or nothing at its end
 row_there : (files : List ℕ → Option (List ℕ)) (name bytes : List ℕ) (a b : List ShelfCall) (part : IsPart files a b) (row : ReadsRow name 0 a b bytes)
     → (header no_limits (start bytes) ≡ Wanting → SeesEnd name (length bytes) a b) → (f : List ℕ) × (files name ≡ Some f)
@@ -75,21 +71,6 @@ file_same leaves files name bytes f given a b part row end is =
     (λ wanting. (let few : length f ≤ length bytes = end_read name (length bytes) a b f (end wanting) read in
     ap (λ (m : List ℕ). bytes ++ m) (drop_all (0 + length bytes) f (omega (arith, few))) ∙ append-nil bytes))
     ∙ ap (λ (x : List ℕ). audited leaves (message x given)) (sym all)
-
--- a file that gave something, and as much as this
-pub gave_more : (files : List ℕ → Option (List ℕ)) (name bytes : List ℕ) (a b : List ShelfCall) → IsPart files a b → (row : ReadsRow name 0 a b bytes) → 0 < length bytes
-    → (f : List ℕ) × (files name ≡ Some f) × (length bytes ≤ length f)
-unfolding reads_in_row
-gave_more files name bytes a b part row some = by_pieces row.pieces row.calls row.all
-  where
-    as_long : (f : List ℕ) → files name ≡ Some f → length bytes ≤ length f
-    as_long f is = subst (λ (x : List ℕ). length bytes ≤ length x) (sym (row_read name 0 a b bytes f row (part_read files name f a b part is))) (omega (arith, length-append bytes (drop (0 + length bytes) f)))
-
-    by_pieces : (pieces : List (List ℕ)) → b ≡ a ++ reads_in_row name 0 pieces → bytes ≡ concat pieces → (f : List ℕ) × (files name ≡ Some f) × (length bytes ≤ length f)
-    by_pieces [] calls all = absurd (let none : 0 < length {A = ℕ} [] = subst (λ (x : List ℕ). 0 < length x) all some in omega (arith, none))
-    by_pieces (piece ∷ more) calls all =
-        let there = part_there files name a b 0 piece part (reads_in_row name 0 (piece ∷ more)) calls (read_first (reads name 0 piece) (reads_in_row name (0 + length piece) more)) in
-        (there.0, there.1, as_long there.0 there.1)
 
 -- ---- each message
 

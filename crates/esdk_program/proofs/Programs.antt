@@ -63,7 +63,7 @@ does (Ok (requests.Encrypt asked)) trees before after unchanged time code same f
 does (Ok (requests.Decrypt asked)) trees before after unchanged time code same framed runs promises world of =
     decrypt_does (run_of (Ok (requests.Decrypt asked)) trees before after code) asked (without_entropy unchanged) world of same (promises.reads asked refl) runs
 does (Ok (requests.Reseal asked)) trees before after unchanged time code same framed runs promises world of =
-    reseal_does (run_of (Ok (requests.Reseal asked)) trees before after code) asked unchanged world of same refl (framed (requests.Reseal asked) refl) runs
+    reseal_does (run_of (Ok (requests.Reseal asked)) trees before after code) asked unchanged world of same (framed (requests.Reseal asked) refl) runs
 does (Ok (requests.Extract asked)) trees before after unchanged time code same framed runs promises world of =
     extract_does (run_of (Ok (requests.Extract asked)) trees before after code) asked unchanged world of same runs
 does (Ok (requests.Audit name)) trees before after unchanged time code same framed runs promises world of =

@@ -1,9 +1,8 @@
 -- What `reseal` comes to.
-use Rattle.std.proofs.Common.{◌≡◌, ◌⊎◌, ◌∙◌, ℕ, ◌≤◌, List, [], ◌∷◌, ◌++◌, length, take, take_at, Option, Some, None, Ok, refl, sym, ap, subst, inl, inr}
+use Rattle.std.proofs.Common.{◌≡◌, ◌⊎◌, ◌∙◌, ℕ, ◌≤◌, List, [], ◌∷◌, ◌++◌, length, take, take_at, Option, Some, None, refl, sym, ap, subst, inl, inr}
 use Rattle.std.specs.Prelude.{IfSome}
 use Rattle.std.proofs.lemmas.Bool.{cases_lt}
 use Rattle.std.proofs.lemmas.List.{append_cancel_left}
-use Rattle.esdk_args.specs.declared.request.Request.TheVariants as requests
 use Rattle.esdk_args.specs.declared.request.ResealWords.{ResealWords}
 use Rattle.esdk_fields.specs.Counts.{Rose, Stayed, counted}
 use Rattle.esdk_fields.specs.declared.refusals.Outside.TheVariants as outsides
@@ -22,7 +21,7 @@ use Rattle.reseal_core.proofs.Telling.{Giving, GivesMore, input_more, stops_more
 use Rattle.esdk_report.specs.Report.{Reports}
 use Rattle.esdk_report.specs.declared.failure.Failure.{Failure}
 use Rattle.esdk_report.specs.declared.failure.Failure.TheVariants as failures
-use Rattle.esdk_run.specs.Decrypt.{TreeFinds, TreeFindsNone}
+use Rattle.esdk_run.specs.Decrypt.{tree_answering}
 use Rattle.esdk_run.specs.Failures.{resealing_failure}
 use Rattle.esdk_run.specs.Giving.{refusal_over}
 use Rattle.esdk_run.specs.Objects.{Unchanged, same_streams}
@@ -31,7 +30,7 @@ use Rattle.esdk_run.specs.Reseal.{HasFirst, HasNoSecond, HasSecond, ResealFails,
 use Rattle.esdk_run.specs.ResealTold.{reseal_reader, reseal_writer}
 use Rattle.esdk_run.specs.Run.{ResealRuns, TellsOrLacksMemory}
 use Rattle.esdk_run.specs.Trees.{IsLawful}
-use Rattle.esdk_run.proofs.Keys.{keys_allow, keys_wrap, materials_told}
+use Rattle.esdk_run.proofs.Keys.{keys_wrap, materials_told, tree_allows}
 use Rattle.esdk_run.proofs.Resealing.{tree_giving}
 use Rattle.esdk_program.specs.Effect.{RunComesTo, Effect, KeyringFailed}
 use Rattle.esdk_program.specs.Program.{reseal_effect, resealed_by, with_both_keys, with_read, with_tree}
@@ -57,7 +56,7 @@ keys_give reader second others size lawful told = record {
 }
 
 module _ (r : Run) (asked : ResealWords) (unchanged : Unchanged) (world : World) (of : IsOf r world) (same : unchanged.output → r.after.output ≡ r.before.output)
-    (is_reseal : r.words ≡ Ok (requests.Reseal asked)) (wide : 1 ≤ asked.frame) where
+    (wide : 1 ≤ asked.frame) where
   abbrev Done : Type 0
   Done = IfSome (reseal_effect asked r.trees world) (RunComesTo r world)
 
@@ -102,8 +101,8 @@ module _ (r : Run) (asked : ResealWords) (unchanged : Unchanged) (world : World)
     by_keys told stayed lawful second_told (inl (context, (done, shown))) = inl (
       context,
       (
-        input_more (record { finds = TreeFinds (required_in asked.pairs) tree left; finds_none = TreeFindsNone (required_in asked.pairs) tree left }) (answering_by reader) (reseal_settings asked) given
-            (tree_giving second) (giving reader second others asked.frame) asked.frame (keys_allow (reseal_settings asked) given (required_in asked.pairs) tree left keys told stayed)
+        input_more (tree_answering (required_in asked.pairs) tree left) (answering_by reader) (reseal_settings asked) given
+            (tree_giving second) (giving reader second others asked.frame) asked.frame (tree_allows (reseal_settings asked) given (required_in asked.pairs) tree left keys told stayed)
             (keys_give reader second others asked.frame lawful second_told) r.before.input r.after.input r.before.output r.after.output r.before.entropy r.after.entropy context done,
         shown,
       ),
@@ -111,8 +110,8 @@ module _ (r : Run) (asked : ResealWords) (unchanged : Unchanged) (world : World)
     by_keys told stayed lawful second_told (inr (error, (ends, said))) = inr (
       error,
       (
-        stops_more (record { finds = TreeFinds (required_in asked.pairs) tree left; finds_none = TreeFindsNone (required_in asked.pairs) tree left }) (answering_by reader) (reseal_settings asked) given
-            (tree_giving second) (giving reader second others asked.frame) asked.frame (keys_allow (reseal_settings asked) given (required_in asked.pairs) tree left keys told stayed)
+        stops_more (tree_answering (required_in asked.pairs) tree left) (answering_by reader) (reseal_settings asked) given
+            (tree_giving second) (giving reader second others asked.frame) asked.frame (tree_allows (reseal_settings asked) given (required_in asked.pairs) tree left keys told stayed)
             (keys_give reader second others asked.frame lawful second_told) r.before.input r.after.input r.before.output r.after.output r.before.entropy r.after.entropy
             (same_streams unchanged) unasked error ends,
         said,
@@ -129,17 +128,17 @@ module _ (r : Run) (asked : ResealWords) (unchanged : Unchanged) (world : World)
 
     ended_so : Ended run unasked → So
     ended_so (inl (context, (done, shown))) =
-        with_drawn done.drawn done.drew (reseals_done r world of reader second others asked is_reseal wide done.drawn context done.is shown)
+        with_drawn done.drawn done.drew (reseals_done r world of reader second others asked wide done.drawn context done.is shown)
     ended_so (inr (errors.Outside outsides.EntropyFault, (ends, said))) =
         stops_unwritten r world (Some (resealed_so given second keys others)) (failures.Outside outsides.EntropyFault) ends.rose said (same ends.same.1)
     ended_so (inr (errors.Outside outside, (ends, said))) =
-        with_drawn ends.drawn ends.drew (reseals_ends r world of reader second others asked is_reseal wide ends.drawn (errors.Outside outside) ends.is said)
+        with_drawn ends.drawn ends.drew (reseals_ends r world of reader second others asked wide ends.drawn (errors.Outside outside) ends.is said)
     ended_so (inr (errors.Fault fault, (ends, said))) =
-        with_drawn ends.drawn ends.drew (reseals_ends r world of reader second others asked is_reseal wide ends.drawn (errors.Fault fault) ends.is said)
+        with_drawn ends.drawn ends.drew (reseals_ends r world of reader second others asked wide ends.drawn (errors.Fault fault) ends.is said)
     ended_so (inr (errors.Refusal refusal, (ends, said))) =
-        with_drawn ends.drawn ends.drew (reseals_ends r world of reader second others asked is_reseal wide ends.drawn (errors.Refusal refusal) ends.is said)
+        with_drawn ends.drawn ends.drew (reseals_ends r world of reader second others asked wide ends.drawn (errors.Refusal refusal) ends.is said)
     ended_so (inr (errors.Memory, (ends, said))) =
-        with_drawn ends.drawn ends.drew (reseals_ends r world of reader second others asked is_reseal wide ends.drawn errors.Memory ends.is said)
+        with_drawn ends.drawn ends.drew (reseals_ends r world of reader second others asked wide ends.drawn errors.Memory ends.is said)
 
   -- ---- both files were read
 
@@ -182,7 +181,7 @@ module _ (r : Run) (asked : ResealWords) (unchanged : Unchanged) (world : World)
       with_told (Some keys) told = elim (cases_lt left.faults (counted tree.faults 1)) [
         | inl stayed ↦ ended_so given tree left second keys sealing.keys unasked
             (by_keys given tree left second keys sealing.keys unasked told stayed sealing.lawful sealing.told ended)
-        | inr rose ↦ inr (inr (inr (inl (keyring_failed rose))))
+        | inr rose ↦ inr (inr (inr (keyring_failed rose)))
       ]
 
       both_do : Done

@@ -1,9 +1,8 @@
 -- What a resealing comes to, under the keys of both trees.
-use Rattle.std.proofs.Common.{◌≡◌, ◌∙◌, ℕ, ◌<◌, ◌≤◌, nat_le, Bool, true, false, List, [], ◌++◌, length, take, drop, Option, Some, None, Ok, refl, sym, ap, subst, arith, append_assoc, length-append, length-take, take-append-drop, le-leb, leb-true, inl, inr}
+use Rattle.std.proofs.Common.{◌≡◌, ◌∙◌, ℕ, ◌<◌, ◌≤◌, nat_le, Bool, true, false, List, [], ◌++◌, length, take, drop, Option, Some, None, refl, sym, ap, subst, arith, append_assoc, length-append, length-take, take-append-drop, le-leb, leb-true, inl, inr}
 use Rattle.std.proofs.lemmas.Bool.{lt-leb}
 use Rattle.std.proofs.lemmas.List.{take-append-le, take_all}
 use Rattle.std.specs.Io.KnownBytes.{Appends}
-use Rattle.esdk_args.specs.declared.request.Request.TheVariants as requests
 use Rattle.esdk_args.specs.declared.request.ResealWords.{ResealWords}
 use Rattle.esdk_fields.specs.Counts.{Rose}
 use Rattle.esdk_fields.specs.declared.faults.Fault.{Fault}
@@ -60,7 +59,7 @@ over_keys reader second others size = record {
 }
 
 module _ (r : Run) (world : World) (of : IsOf r world) (reader : Reader) (second : KeyringMeaning) (others : List WrapKeyValue) (asked : ResealWords)
-    (is_reseal : r.words ≡ Ok (requests.Reseal asked)) (wide : 1 ≤ asked.frame) (drawn : List ℕ) where
+    (wide : 1 ≤ asked.frame) (drawn : List ℕ) where
   abbrev run : Resealing
   run = over_keys reader second others asked.frame
 
@@ -271,16 +270,6 @@ module _ (r : Run) (world : World) (of : IsOf r world) (reader : Reader) (second
       (more.1 ∙ ap (λ (t : List ℕ). t ++ more.0) (sym (take-append-drop (most_text asked.frame) text)) ∙ append_assoc (take (most_text asked.frame) text) (drop (most_text asked.frame) text) more.0)
       (omega (arith, length-take (most_text asked.frame) text)) (front_beyond r.before.output r.after.output _ _ f.last.was)
 
-  final_fits : (f : ResealFinalFails run drawn r.before.input r.after.input r.before.output r.after.output) → Rose r.before.output.faults r.after.output.faults
-      → IsReported (failures.Outside outsides.SinkFault) r.code r.before.report r.after.report → judged f.bytes reader.settings (Unlocks f.whole f.only f.key) ≡ j
-      → (b : Bool) → RunComesTo r world (resealed_text (writer f.whole f.only) drawn (content j) f.whole None b)
-  final_fits f rose said same false = inr (inr (inr (inr (inr (record { asked = asked; words = is_reseal; refuses = refl; rose = rose; said = said })))))
-  final_fits f rose said same true =
-      stops r world (resealed_end (writer f.whole f.only) drawn (content j) f.whole None) (failures.Outside outsides.SinkFault) rose said
-      (subst (λ (x : Judged). Front (message_by (writer f.whole f.only) drawn (content x))) same
-      (subst (λ (x : EncMaterialsValue). Front (message_of x asked.frame (drawn_id drawn) (content (judged f.bytes reader.settings (Unlocks f.whole f.only f.key))))) f.has.given.1
-      (front_beyond r.before.output r.after.output _ _ f.front)))
-
   final_fails : Rose r.before.output.faults r.after.output.faults → ResealFinalFails run drawn r.before.input r.after.input r.before.output r.after.output
       → IsReported (failures.Outside outsides.SinkFault) r.code r.before.report r.after.report → So
   final_fails rose f said =
@@ -291,10 +280,16 @@ module _ (r : Run) (world : World) (of : IsOf r world) (reader : Reader) (second
         unlocked = sym (ap (λ (x : Judged). x.unlocked) same) ∙ whole_unlocked f.bytes reader.settings answer f.verdict;
         answer = ap (unlocked_to reader) all ∙ sym (answers_unlocking reader f.bytes answer f.answered);
       } in
+      let room : length (content j) ≤ most_text asked.frame = subst (λ (x : Judged). length (content x) ≤ most_text asked.frame) same f.room in
       let whole : end ≡ None = ap (λ (v : Verdict). failure_at v ends.Whole) (sym (ap (λ (x : Judged). x.verdict) same) ∙ f.verdict) in
       subst (λ (x : Effect). RunComesTo r world x)
-      (sym (begun_is f.whole f.only f.key f.materials is f.has ∙ ap (λ (e : Option Failure). resealed_text (writer f.whole f.only) drawn (content j) f.whole e fits) whole))
-      (final_fits f rose said same fits)
+      (sym (begun_is f.whole f.only f.key f.materials is f.has
+      ∙ ap (resealed_text (writer f.whole f.only) drawn (content j) f.whole end) (le-leb (length (content j)) (most_text asked.frame) room)
+      ∙ ap (λ (e : Option Failure). resealed_end (writer f.whole f.only) drawn (content j) f.whole e) whole))
+      (stops r world (resealed_end (writer f.whole f.only) drawn (content j) f.whole None) (failures.Outside outsides.SinkFault) rose said
+      (subst (λ (x : Judged). Front (message_by (writer f.whole f.only) drawn (content x))) same
+      (subst (λ (x : EncMaterialsValue). Front (message_of x asked.frame (drawn_id drawn) (content (judged f.bytes reader.settings answer)))) f.has.given.1
+      (front_beyond r.before.output r.after.output _ _ f.front))))
 
   -- ---- the new message is refused
 

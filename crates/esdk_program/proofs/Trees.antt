@@ -1,12 +1,12 @@
 -- What a run comes to that has no keyring tree.
-use Rattle.std.proofs.Common.{◌≡◌, ◌⊎◌, ◌∙◌, ℕ, List, [], ◌∷◌, ◌++◌, true, false, Option, Some, None, Result, Err, refl, sym, ap, subst, inl, inr}
-use Rattle.std.specs.Prelude.{IfSome, is_none}
+use Rattle.std.proofs.Common.{◌≡◌, ◌⊎◌, ◌∙◌, ℕ, List, [], ◌∷◌, ◌++◌, Option, Some, Result, Err, refl, sym, ap, subst, arith, inl, inr}
+use Rattle.std.specs.Prelude.{IfSome}
 use Rattle.esdk_args.specs.declared.pair_words.PairWord.{PairWord}
 use Rattle.esdk_fields.specs.declared.refusals.FileRefusal.{FileRefusal}
 use Rattle.esdk_fields.specs.declared.refusals.FileRefusal.TheVariants.{FileTooLong}
 use Rattle.esdk_fields.specs.declared.refusals.Outside.TheVariants as outsides
 use Rattle.esdk_fields.specs.declared.refusals.Refusal.{Refusal}
-use Rattle.esdk_base.specs.Shelf.{Files, Holds, file_of, is_missing}
+use Rattle.esdk_base.specs.Shelf.{Files, is_missing}
 use Rattle.esdk_base.specs.Streams.{ShelfState}
 use Rattle.esdk_fields.specs.Counts.{Rose}
 use Rattle.whole_input.specs.FileReads.{Grows, reads_in_row}
@@ -23,27 +23,10 @@ use Rattle.esdk_run.specs.Trees.{HasNoTree}
 use Rattle.esdk_program.specs.Effect.{RunComesTo, Effect, refused}
 use Rattle.esdk_program.specs.Program.{prepared, with_file, with_read}
 use Rattle.esdk_program.specs.World.{IsOf, Run, World}
-use Rattle.esdk_program.proofs.Ends.{at_any, reported, refuses_unwritten, stops_unwritten}
-use Rattle.esdk_program.proofs.Files.{context_refused, context_taken, file_between, file_long, file_taken}
+use Rattle.esdk_program.proofs.Ends.{refuses_unwritten, stops_unwritten}
+use Rattle.esdk_program.proofs.Files.{IsPart, context_refused, context_taken, file_between, file_long, file_taken, gave_more, part_all, part_second}
 
--- ---- a file that is too long
-
--- the shelf tells no files, or what this name holds
-told_or_not : (told : Option Files) (name : List ℕ) → is_missing told name ≡ false → (told ≡ None) ⊎ ((bytes : List ℕ) × Holds told name bytes)
-told_or_not None name there = inl refl
-told_or_not (Some files) name there = inr (by_get (file_of (Some files) name) refl there)
-  where
-    by_get : (o : Option (List ℕ)) → file_of (Some files) name ≡ o → is_none (file_of (Some files) name) ≡ false → (bytes : List ℕ) × Holds (Some files) name bytes
-    by_get (Some bytes) is there = (bytes, is)
-    by_get None is there = let both : true ≡ false = sym (ap is_none is) ∙ there in absurd (cc both)
-
--- a file that was read holds what was read of it, or the shelf tells no files
-told_file : (r : Run) (world : World) → IsOf r world → (name bytes : List ℕ) (new : ShelfState) → IsFile r.before.shelf new name bytes
-    → (r.before.shelf.files ≡ None) ⊎ (world.files name ≡ Some bytes)
-told_file r world of name bytes new file = elim (told_or_not r.before.shelf.files name file.there) [
-  | inl untold ↦ inl untold
-  | inr held ↦ inr (of.files.holds name held.0 held.1 ∙ ap (λ (b : List ℕ). Some b) (file.whole held.0 held.1))
-]
+-- ---- a file that gives no value
 
 -- a file that is read behind others of the run, from when the shelf was so
 pub record IsBehind (r : Run) (old : ShelfState) : Type 0 where
@@ -58,15 +41,13 @@ module _ (r : Run) (world : World) (of : IsOf r world) (old : ShelfState) (behin
   -- K10
   long_file : (name : List ℕ) (go : List ℕ → Option Effect) → IsLong old r.after.shelf name → Reports (failures.File FileTooLong) r.code r.before.report r.after.report
       → r.after.output ≡ r.before.output → IfSome (with_file (world.files name) go) (RunComesTo r world)
-  long_file name go long said same = elim (told_or_not old.files name long.there) [
-    | inl untold ↦ (elim (reported (failures.File FileTooLong) r.code r.before.report r.after.report said) [
-      | inl is ↦ at_any (with_file (world.files name) go) (RunComesTo r world)
-          (λ e. inr (inr (inr (inr (inl (record { untold = sym behind.files ∙ untold; said = is; unwritten = same }))))))
-      | inr memory ↦ stops_unwritten r world (with_file (world.files name) go) failures.Memory tt memory same
-    ])
-    | inr held ↦ refuses_unwritten r world (with_file (world.files name) go) (failures.File FileTooLong)
-        (file_long (world.files name) held.0 go (of.files.holds name held.0 (subst (λ (f : Option Files). Holds f name held.0) behind.files held.1)) (long.many held.0 held.1)) said same
-  ]
+  long_file name go long said same =
+      let part : IsPart world.files old.calls r.after.shelf.calls =
+      part_second world.files r.before.shelf.calls old.calls r.after.shelf.calls (part_all world.files r.before.shelf r.after.shelf of.files) behind.grown
+      (reads_in_row name 0 long.read.pieces, long.read.calls) in
+      let gave = gave_more world.files name long.bytes old.calls r.after.shelf.calls part long.read (omega (arith, long.over)) in
+      refuses_unwritten r world (with_file (world.files name) go) (failures.File FileTooLong)
+      (file_long (world.files name) gave.0 go gave.1 (omega (arith, gave.2, long.over))) said same
 
   -- a file that is refused: K10, or as its bytes are read
   refused_file : {A : Type 0} (read : List ℕ → Result A FileRefusal) (go_on : List ℕ → Result A FileRefusal → Option Effect) (name : List ℕ) (refusal : FileRefusal)
@@ -113,29 +94,20 @@ module _ (r : Run) (world : World) (of : IsOf r world) (old : ShelfState) (behin
   second_so failure fails said holds =
       subst (λ (x : Option Effect). IfSome x (RunComesTo r world)) (sym (is holds)) (file_fails r world of old behind read go_on name err failure fails said same)
 
-  -- on a shelf that tells no files
-  untold_second : (failure : Failure) → FileFails read old r.after.shelf name failure → Reports failure r.code r.before.report r.after.report → r.before.shelf.files ≡ None → Second
-  untold_second (failures.File refusal) (inl (named, long)) said untold =
-      elim (reported (failures.File FileTooLong) r.code r.before.report r.after.report (subst (λ (f : FileRefusal). Reports (failures.File f) r.code r.before.report r.after.report) named said)) [
-        | inl reports ↦ at_any o (RunComesTo r world) (λ e. inr (inr (inr (inr (inl (record { untold = untold; said = reports; unwritten = same }))))))
-        | inr memory ↦ stops_unwritten r world o failures.Memory tt memory same
-      ]
-  untold_second (failures.File refusal) (inr refuses) said untold =
-      second_so (failures.File refusal) (inr refuses) said
-      (file_between world.files one bytes r.before.shelf r.after.shelf r.before.shelf.calls old.calls of.files (grows_none r.before.shelf.calls)
-      (reads_in_row name 0 (refuses.file.read.pieces ++ [] ∷ []), refuses.file.read.calls) file.read)
-  untold_second (failures.Outside outsides.ShelfFault) fails said untold = elim fails.cause [
-    | inl rose ↦ stops_unwritten r world o (failures.Outside outsides.ShelfFault) (subst (λ (n : ℕ). Rose n r.after.shelf.faults) behind.faults rose) said same
-    | inr missing ↦ (let both : false ≡ true = sym (ap (λ (f : Option Files). is_missing f name) (behind.files ∙ untold)) ∙ missing.0 in absurd (cc both))
-  ]
-  untold_second failures.Memory fails said untold = stops_unwritten r world o failures.Memory tt said same
-  untold_second failure fails said untold = absurd fails
+  -- the first holds what was read of it
+  first_holds : Grows old.calls r.after.shelf.calls → world.files one ≡ Some bytes
+  first_holds grown =
+      file_between world.files one bytes r.before.shelf r.after.shelf r.before.shelf.calls old.calls of.files (grows_none r.before.shelf.calls) grown file.read
 
   pub second_fails : (failure : Failure) → FileFails read old r.after.shelf name failure → Reports failure r.code r.before.report r.after.report → Second
-  second_fails failure fails said = elim (told_file r world of one bytes old file) [
-    | inl untold ↦ untold_second failure fails said untold
-    | inr holds ↦ second_so failure fails said holds
-  ]
+  second_fails (failures.File refusal) (inl (named, long)) said =
+      second_so (failures.File refusal) (inl (named, long)) said (first_holds (reads_in_row name 0 long.read.pieces, long.read.calls))
+  second_fails (failures.File refusal) (inr refuses) said =
+      second_so (failures.File refusal) (inr refuses) said (first_holds (reads_in_row name 0 (refuses.file.read.pieces ++ [] ∷ []), refuses.file.read.calls))
+  second_fails (failures.Outside outsides.ShelfFault) fails said =
+      second_so (failures.Outside outsides.ShelfFault) fails said (first_holds (reads_in_row name 0 fails.read.pieces, fails.read.calls))
+  second_fails failures.Memory fails said = stops_unwritten r world o failures.Memory tt said same
+  second_fails failure fails said = absurd fails
 
 module _ (r : Run) (world : World) (of : IsOf r world) where
   -- ---- why there is no tree

@@ -1,12 +1,8 @@
 -- What a run comes to, and that a run came to it.
-use Rattle.std.specs.Prelude.{◌≡◌, ◌⊎◌, ℕ, List, [], ◌∷◌, ⊤, Some, None, Ok}
+use Rattle.std.specs.Prelude.{◌≡◌, ◌⊎◌, ℕ, List, [], ◌∷◌, ⊤, Some, Ok}
 use Rattle.std.specs.Io.KnownBytes.{Appends}
-use Rattle.esdk_args.specs.declared.request.Request.TheVariants as requests
-use Rattle.esdk_args.specs.declared.request.ResealWords.{ResealWords}
 use Rattle.esdk_fields.specs.Counts.{Rose}
-use Rattle.esdk_fields.specs.declared.refusals.FileRefusal.TheVariants.{FileTooLong}
 use Rattle.esdk_fields.specs.declared.refusals.Outside.TheVariants as outsides
-use Rattle.esdk_fields.specs.declared.refusals.Refusal.TheVariants.{TooManyFrames}
 use Rattle.esdk_base.specs.Sink.{AppendsFront}
 use Rattle.keyring_trait.specs.Keyring.{KeyringMeaning}
 use Rattle.esdk_report.specs.Lines.{printed_line}
@@ -85,31 +81,12 @@ pub record RunLosesReport (r : Run) (e : Effect) : Type 0 where
   pub report : AppendsFront r.before.report.written r.after.report.written e.report
   pub rose : Rose r.before.report.faults r.after.report.faults
 
--- ---- what no clause of `run` says
-
--- A shelf that tells no files gave more of one than is taken (K10), of whichever. Nothing was
--- written.
-pub record LongUntold (r : Run) : Type 0 where
-  pub untold : r.before.shelf.files ≡ None
-  pub said : IsReported (failures.File FileTooLong) r.code r.before.report r.after.report
-  pub unwritten : r.after.output ≡ r.before.output
-
--- A write of `reseal` failed (X2), where the program refuses a text that a message has no room for
--- (Q9): what was written then.
-pub record FrontUntold (r : Run) (e : Effect) : Type 0 where
-  pub asked : ResealWords
-  pub words : r.words ≡ Ok (requests.Reseal asked)
-  pub refuses : e.code ≡ failure_status (failures.Refusal TooManyFrames)
-  pub rose : Rose r.before.output.faults r.after.output.faults
-  pub said : IsReported (failures.Outside outsides.SinkFault) r.code r.before.report r.after.report
-
 -- ---- both
 
 -- The run was stopped; or its report was lost; or a keyring failed, and was passed over for
--- another, of which nothing is said here; or it is one of the two of which no clause speaks.
+-- another: of `encrypt`, `decrypt` and `extract` that are done `Keeps` says what was written then.
 abbrev pub IsDisturbed : Run → World → Effect → Type 0
 IsDisturbed r world e = IsStopped r world e ⊎ RunLosesReport r e ⊎ KeyringFailed r world
-    ⊎ LongUntold r ⊎ FrontUntold r e
 
 -- The run did just this, or it was disturbed.
 abbrev pub RunComesTo : Run → World → Effect → Type 0

@@ -1,4 +1,5 @@
 pub mod World
 pub mod Effect
 pub mod Program
+pub mod Keeps
 pub mod Laws

@@ -3,27 +3,30 @@
 //! headers, and encrypts and decrypts many of them in one batch. It audits which keys open which
 //! messages, migrates a keyring file to version 2, and generates a message of a seed.
 //!
-//! The program is one call, `esdk_run::run`, over its words, its input, its two outputs, a shelf of
-//! files, an entropy, a clock and the keyrings that a keyring file may name; `main` makes the real
-//! ones, calls it, and ends with its status.
+//! The program is one call, `esdk_program::run_program`, over its words, its input, its two outputs,
+//! a shelf of files, an entropy, a clock and the keyrings that a keyring file may name; `main` makes
+//! the real ones, calls it by `run_over`, which says the same of just these, and ends with its
+//! status.
 #![tactic(auto)]
 
 ghost use Rattle.std.specs.Prelude.{◌≡◌, ◌<◌, ◌^◌, length, IfOk};
 ghost use Rattle.esdk_args.specs.Words.{words_of};
+ghost use Rattle.esdk_program.specs.Keeps.{Keeps};
+ghost use Rattle.esdk_program.specs.Program.{Does};
+ghost use Rattle.esdk_program.specs.World.{run_of};
 ghost use Rattle.esdk_run.specs.Objects.{as_before};
 ghost use Rattle.esdk_run.specs.Promises.{Promises, ticks};
 ghost use Rattle.esdk_run.specs.Run.{RunsAs};
-ghost use Rattle.esdk_run.specs.Trees.{trees_of};
-ghost use Rattle.esdk_tool.specs.RealObjects.{real_clock, real_objects};
+ghost use Rattle.esdk_tool.specs.RealObjects.{real_clock, real_objects, real_trees};
 
 use esdk_base::{Shelf, Sink};
 use esdk_fields::{Outside, Text};
+use esdk_program::run_program;
 use esdk_report::{Failure, Status, report_failure};
-use esdk_run::{Ended, run};
+use esdk_run::Ended;
 use esdk_system::{FileShelf, HeldStreams, RngEntropy, StdSink, StdSource, SystemClock};
 use keydir_keyring::KeydirKeyring;
 use keyring_file::Plug;
-use keyring_trait::Keyring;
 use raw_aes_keyring::RawError;
 use std::alloc::{AllocError, Global};
 use std::io::{ErrorKind, Stdin, Stdout};
@@ -87,11 +90,12 @@ fn run_words<R: Sink>(rt: HostRuntime, report: &mut R) -> Result<Status, Failure
     Ok(ended.status)
 }
 
-/// Runs the program over the real objects. Its clauses are those of `run` over just their types:
-/// what it made of the bytes that standard input gave, of those that the reads of files gave, of
-/// those that the generator gave, and of the moments that the clock gave, on what standard output
-/// took and in the calls of the shelf.
-fn run_over<P: Keyring, R: Sink>(
+/// Runs the program over the real objects. Its clauses are those of `run_program` over just their
+/// types: what it made of the bytes that standard input gave, of those that the reads of files gave,
+/// of those that the generator gave, and of the moments that the clock gave, on what standard output
+/// took and in the calls of the shelf. Who wants to know what the program does reads `does` and
+/// `keeps`; `course` and `promises` tell what each failure leaves.
+fn run_over<R: Sink>(
     alloc: Global,
     words: &[Text],
     input: &mut StdSource<Stdin>,
@@ -100,15 +104,26 @@ fn run_over<P: Keyring, R: Sink>(
     shelf: &mut FileShelf,
     entropy: &mut RngEntropy,
     clock: &mut SystemClock,
-    plugs: Vec<Plug<P>>,
-) -> Ended<P>
+    plugs: Vec<Plug<Keydir>>,
+) -> Ended<Keydir>
     requires plugs { length plugs.items < 2 ^ 24 }
-    ensures runs { RunsAs (trees_of P.meaning plugs.items result.tree) (words_of words.now)
+    ensures does { Does (run_of (words_of words.now) (real_trees plugs.items result.tree)
+        (real_objects input.old output.old shelf.old entropy.old (R.state report.old))
+        (real_objects input.new output.new shelf.new entropy.new (R.state report.new))
+        result.status.code) }
+    ensures keeps { Keeps (run_of (words_of words.now) (real_trees plugs.items result.tree)
+        (real_objects input.old output.old shelf.old entropy.old (R.state report.old))
+        (real_objects input.new output.new shelf.new entropy.new (R.state report.new))
+        result.status.code)
+        (as_before (input.new ≡ input.old) (output.new ≡ output.old)
+        (shelf.new ≡ shelf.old) (entropy.new ≡ entropy.old))
+        (ticks (real_clock clock.old) (real_clock clock.new) (clock.new ≡ clock.old)) }
+    ensures course { RunsAs (real_trees plugs.items result.tree) (words_of words.now)
         (real_objects input.old output.old shelf.old entropy.old (R.state report.old))
         (real_objects input.new output.new shelf.new entropy.new (R.state report.new))
         (as_before (input.new ≡ input.old) (output.new ≡ output.old)
         (shelf.new ≡ shelf.old) (entropy.new ≡ entropy.old)) result.status.code }
-    ensures promises { Promises (trees_of P.meaning plugs.items result.tree) (words_of words.now)
+    ensures promises { Promises (real_trees plugs.items result.tree) (words_of words.now)
         (real_objects input.old output.old shelf.old entropy.old (R.state report.old))
         (real_objects input.new output.new shelf.new entropy.new (R.state report.new))
         (as_before (input.new ≡ input.old) (output.new ≡ output.old)
@@ -116,7 +131,7 @@ fn run_over<P: Keyring, R: Sink>(
         (ticks (real_clock clock.old) (real_clock clock.new) (clock.new ≡ clock.old))
         result.status.code }
 {
-    run(
+    run_program(
         alloc, words, input, output, report, shelf, entropy, clock, plugs,
     )
 }
