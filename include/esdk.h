@@ -6,7 +6,9 @@
  *     esdk_handle handle = ESDK_INIT;
  *     esdk_new(&handle, file, file_len);              the keyring file's bytes
  *     esdk_pair(&handle, "set", 3, "photos", 6);      the encryption context
- *     esdk_seal(&handle, 4096, ESDK_ANY_LENGTH, 0);   or esdk_open(&handle, 0, 0, false)
+ *     esdk_seal(&handle, 4096, ESDK_ANY_LENGTH, 0);   or esdk_open(&handle, 0, 0, false), or
+ *                                                     esdk_reseal(&handle, other, other_len, 4096,
+ *                                                     0, 0, false)
  *     esdk_feed(&handle, piece, n, room, sizeof room, &written, &waits);     again and again
  *     esdk_take(&handle, room, sizeof room, &written, &waits);               while waits is not 0
  *     esdk_finish(&handle, room, sizeof room, &written, &waits);             and take what waits
@@ -29,8 +31,9 @@
  *     signal handler, nor from the forked child of a process with threads.
  *  5. A bool is 0 or 1.
  *  6. The processor is an x86-64-v2 one. `esdk_check` tests that: call it once, before the rest.
- *  7. Random bytes given to `esdk_seal_with` are of a cryptographic generator, and are used for one
- *     message only. `esdk_seal` draws them itself: only tests need the other.
+ *  7. Random bytes given to `esdk_seal_with` or `esdk_reseal_with` are of a cryptographic generator,
+ *     and are used for one message only. `esdk_seal` and `esdk_reseal` draw them themselves: only
+ *     tests need the others.
  *  8. There is stack for the call. How much it takes isn't proved.
  *
  * What else may be wrong is tested, and answers a code: a handle that was never made or is closed, a
@@ -42,8 +45,8 @@
  * answered ESDK_OK: throw away what was handed out where any call before answered an error
  * (esdk_whole hands nothing out at one). Compare the context (esdk_pair_key, esdk_pair_value) with
  * what you expect before you use the text: a message of another context under the same key opens as
- * well. What is handed out while a message is sealed is a message only once esdk_finish or
- * esdk_whole answered ESDK_OK and nothing waits any more.
+ * well. What is handed out while a message is sealed or resealed is a message only once esdk_finish
+ * or esdk_whole answered ESDK_OK and nothing waits any more.
  *
  * CODES. 0 is done. A code is family * 1000 + number. The families are the exit statuses of the
  * program `esdk`, and the numbers those of its lines:
@@ -88,12 +91,12 @@ enum {
     ESDK_ENDED = 2003,         /* the message was finished, or an earlier call answered an error */
     ESDK_NOT_TEXT = 2004,      /* a key or a value isn't UTF-8 */
     ESDK_BAD_FRAME = 2005,     /* a frame length of 0 */
-    ESDK_BAD_RANDOM = 2006,    /* not esdk_draws() random bytes */
+    ESDK_BAD_RANDOM = 2006,    /* not as many random bytes as esdk_draws says */
     ESDK_OTHER_ABI = 2007,     /* the library is of another ABI than this page: esdk_check alone */
     ESDK_OLD_PROCESSOR = 2008, /* the processor isn't an x86-64-v2 one: esdk_check alone */
     ESDK_BAD_RANGE = 2009,     /* no message has such a range: esdk_span and esdk_range alone */
     ESDK_MISSING = 2010,       /* bytes are wanted that weren't passed: esdk_range alone */
-    ESDK_NO_RANDOM = 4004,     /* X4: the system gave no random bytes: esdk_seal alone */
+    ESDK_NO_RANDOM = 4004,     /* X4: the system gave no random bytes: esdk_seal, esdk_reseal alone */
     ESDK_MEMORY = 5000         /* memory ran out */
 };
 
@@ -185,6 +188,22 @@ int32_t esdk_seal_with(esdk_handle *handle, uint32_t frame_length, uint64_t leng
  * ESDK_NO_SESSION; ESDK_ENDED; ESDK_NOT_NOW where the session isn't set up any more. */
 int32_t esdk_open(esdk_handle *handle, uint16_t max_keys, uint64_t max_unit, bool uncommitted);
 
+/* Begins a message that is resealed: what is fed is an old message, and what is handed out a new one
+ * of the same text and the same whole context, sealed under the keys of another keyring file, whose
+ * bytes these are; they may be overwritten afterwards. The old message is opened as by esdk_open: by
+ * the handle's own keyring file, with its pairs as those given and its required keys among them, and
+ * with the limits `max_keys`, `max_unit` and `uncommitted`. The new one has frames of `frame_length`
+ * bytes and declares no length; of the whole context it stores what the old one stores, and who opens
+ * it has to give the rest. The random bytes are as many as esdk_draws says of another handle over
+ * `file`. Two units are in memory: one of the old message and one of the new.
+ *
+ * ESDK_NO_SESSION; ESDK_ENDED; ESDK_NOT_NOW where the session isn't set up any more;
+ * ESDK_BAD_FRAME. 3001 to 3008 and 3010: `file` is refused, as by esdk_new; ESDK_MEMORY: these end
+ * the session. ESDK_BAD_RANDOM, which is looked for last, changes nothing. */
+int32_t esdk_reseal_with(esdk_handle *handle, const uint8_t *file, size_t file_len,
+                         uint32_t frame_length, uint16_t max_keys, uint64_t max_unit,
+                         bool uncommitted, const uint8_t *random, size_t random_len);
+
 /* ---- Go on. ----
  *
  * Each of these calls hands out, into the room, as many of the bytes that wait as it has room for,
@@ -194,20 +213,28 @@ int32_t esdk_open(esdk_handle *handle, uint16_t max_keys, uint64_t max_unit, boo
 
 /* Takes the whole piece, of any length. Of a message that is sealed, a frame is handed out once more
  * bytes come than it has room for; of one that is opened, a frame's text once its last byte came and
- * its tag was found right. However a text or a message is cut into pieces, what is handed out, put
- * together, is the same.
+ * its tag was found right. Of one that is resealed, the new header is handed out once the tag of the
+ * old one was found right, and a new frame once it is full and more text came whose tag was found
+ * right. However a text or a message is cut into pieces, what is handed out, put together, is the
+ * same.
  *
- * ESDK_NO_SESSION; ESDK_ENDED; ESDK_NOT_NOW where neither esdk_seal nor esdk_open came before.
+ * ESDK_NO_SESSION; ESDK_ENDED; ESDK_NOT_NOW where neither esdk_seal, esdk_open nor esdk_reseal came
+ * before.
  * Sealing: 6009: the text is longer than 4,294,967,295 frames; 6010: it is longer than declared.
  * Opening: 1001 to 1009, 1011 to 1026: the bytes have this fault; 4005: a keyring failed.
+ * Resealing: those of opening, of the old message; 4005 too where a keyring of the new one failed;
+ * 6001, 6004 to 6006, 6008: the new message is refused; 6009: its text would have over 4,294,967,295
+ * frames.
  * ESDK_MEMORY. These end the session; what was handed out or waits of a message that is opened is
- * the text of the frames before the fault. Where memory ran out, it is a front of what the calls
- * would have given. */
+ * the text of the frames before the fault, and of one that is resealed the front of a new message of
+ * that text, without its last frame. Where memory ran out, it is a front of what the calls would have
+ * given. */
 int32_t esdk_feed(esdk_handle *handle, const uint8_t *piece, size_t piece_len, uint8_t *room,
                   size_t room_len, size_t *written, size_t *waits);
 
 /* Says that no byte follows. Of a message that is sealed, the last frame is handed out; of one that
- * is opened, it is told whether it is whole. The session has ended then.
+ * is opened, it is told whether it is whole; of one that is resealed, the new one's last frame is
+ * handed out where the old one is whole. The session has ended then.
  *
  * ESDK_NO_SESSION; ESDK_ENDED; ESDK_NOT_NOW as esdk_feed. 1010: more bytes are wanted. ESDK_MEMORY. */
 int32_t esdk_finish(esdk_handle *handle, uint8_t *room, size_t room_len, size_t *written,
@@ -242,9 +269,9 @@ size_t esdk_error(esdk_handle *handle, uint8_t *room, size_t room_len);
 /* Its number and its name alone, such as `M20 UnitTag`. */
 size_t esdk_error_name(esdk_handle *handle, uint8_t *room, size_t room_len);
 
-/* How many pairs the whole context has of the message that is opened: those that it stores, and
- * those that it only authenticates. -1 while the header isn't unlocked, and where no message is
- * opened. They stay until esdk_again, esdk_new or esdk_close. */
+/* How many pairs the whole context has of the message that is opened or resealed: those that it
+ * stores, and those that it only authenticates. -1 while the header isn't unlocked, and where no
+ * message is opened. They stay until esdk_again, esdk_new or esdk_close. */
 int32_t esdk_pairs(esdk_handle *handle);
 
 /* The key, or the value, of the pair of this number, from 0, in the order of the keys' bytes. -1
@@ -370,6 +397,32 @@ ESDK_LINKAGE int32_t esdk_seal(esdk_handle *handle, uint32_t frame_length, uint6
         else if (got == 0 || errno != EINTR) return ESDK_NO_RANDOM;
     }
     code = esdk_seal_with(handle, frame_length, length, max_keys, random, count);
+    for (at = 0; at < sizeof random; at++) wiped[at] = 0;
+    return code;
+}
+
+/* Begins a message that is resealed, as esdk_reseal_with, with random bytes of the system. The other
+ * codes are esdk_reseal_with's; ESDK_NO_RANDOM: the system gave none, and nothing was changed. The
+ * file is read once more to count them: where memory runs out at that, ESDK_MEMORY changes nothing. */
+ESDK_LINKAGE int32_t esdk_reseal(esdk_handle *handle, const uint8_t *file, size_t file_len,
+                                 uint32_t frame_length, uint16_t max_keys, uint64_t max_unit,
+                                 bool uncommitted) {
+    uint8_t random[ESDK_MOST_DRAWN];
+    volatile uint8_t *wiped = random;
+    esdk_handle other = ESDK_INIT;
+    size_t count, drawn = 0, at;
+    int32_t code = esdk_new(&other, file, file_len);
+    count = esdk_draws(&other);
+    esdk_close(&other);
+    if (code == ESDK_MEMORY) return code;
+    if (count > sizeof random) return ESDK_BAD_RANDOM;
+    while (drawn < count) {
+        ssize_t got = getrandom(random + drawn, count - drawn, 0);
+        if (got > 0) drawn += (size_t)got;
+        else if (got == 0 || errno != EINTR) return ESDK_NO_RANDOM;
+    }
+    code = esdk_reseal_with(handle, file, file_len, frame_length, max_keys, max_unit, uncommitted,
+                            random, count);
     for (at = 0; at < sizeof random; at++) wiped[at] = 0;
     return code;
 }

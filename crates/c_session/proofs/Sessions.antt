@@ -14,10 +14,11 @@ use Rattle.c_session.specs.declared.answer.Answer.TheVariants as answers
 use Rattle.c_session.specs.declared.machine.Machine.{Machine}
 use Rattle.c_session.specs.declared.reason.Reason.{Reason}
 use Rattle.c_session.specs.declared.session.Session.{Session}
-use Rattle.c_session.specs.Machine.{EndsMachine, SessionFeedsMachine, SessionFeedsOpening, SessionFeedsSealing}
+use Rattle.c_session.specs.Machine.{EndsMachine, SessionFeedsMachine, SessionFeedsOpening, SessionFeedsResealing, SessionFeedsSealing}
 use Rattle.c_session.specs.Opening.{OpensEnd}
+use Rattle.c_session.specs.Resealing.{HowResealed, ResealsEnd, SessionReseals, how_asked}
 use Rattle.c_session.specs.Sealing.{SealsEnd}
-use Rattle.c_session.specs.Session.{BeginsSealing, SessionEnds, SessionFeeds, HandsOutOf, OpensLast, OpensMore, OpensNow, SealsBy, SealsLast, SealsMore, SealsNow, asked, going_answer, session_request, setting_answer, settled_session, settled_answer, with_its_keys}
+use Rattle.c_session.specs.Session.{BeginsSealing, SessionEnds, SessionFeeds, HandsOutOf, OpensLast, OpensMore, OpensNow, ResealsLast, ResealsMore, ResealsNow, SealsBy, SealsLast, SealsMore, SealsNow, asked, going_answer, session_request, setting_answer, settled_session, settled_answer, with_its_keys}
 use Rattle.c_session.specs.Waiting.{HandsOut}
 
 pub none_of : (o : Option Answer) → ((a : Answer) → o ≡ Some a → ⊥) → o ≡ None
@@ -46,23 +47,42 @@ module _ {M : Type 0} (state : M → ManagerNow) (base : Session M) (on : base.e
   opens_more begun settings pairs taken piece given (Err reason) fed =
       (refl, (reason, refl, (fed.opener, fed.opens)))
 
+  reseals_more : (how : HowResealed) (begun : M × List (List ℕ)) (first : M) (taken piece given : List ℕ) (result : Result (Unit {0}) Reason)
+      → SessionFeedsResealing (asked state) state how begun base.manager first base.sealing base.machine taken piece (given ++ base.waiting) result
+      → ResealsMore state (settled_session base result) how begun first taken piece given (settled_answer result)
+  reseals_more how begun first taken piece given (Ok done) fed = record {
+    on = on;
+    resealer = fed.resealer;
+    machine = fed.machine;
+    sealing = fed.reseals.sealing;
+    is_there = fed.reseals.is_there;
+    reseals = fed.reseals.comes;
+  }
+  reseals_more how begun first taken piece given (Err reason) fed =
+      (refl, (reason, refl, (fed.reseals.sealing, fed.reseals.is_there, fed.reseals.comes)))
+
 -- the machine of a session was fed
 pub fed_so : {M : Type 0} (state : M → ManagerNow) (old base : Session M) (piece : List ℕ)
     (result : Result (Unit {0}) Reason) → base.ended ≡ old.ended
-    → SessionFeedsMachine (asked state) old.machine base.machine old.manager base.manager old.waiting base.waiting piece result
+    → SessionFeedsMachine (asked state) state old.machine base.machine old.manager base.manager old.sealing base.sealing old.waiting base.waiting piece result
     → ((a : Answer) → going_answer old ≡ Some a → ⊥)
     → SessionFeeds state old (settled_session base result) piece (settled_answer result)
 fed_so {M} state old base piece result same fed goes = record {
   seals = λ v given now.
       seals_more state base (same ∙ now.on) v piece given result
       (subst
-      (λ (m : Machine). SessionFeedsMachine (asked state) m base.machine old.manager base.manager old.waiting base.waiting piece result)
+      (λ (m : Machine). SessionFeedsMachine (asked state) state m base.machine old.manager base.manager old.sealing base.sealing old.waiting base.waiting piece result)
       now.machine fed v given now.seals);
   opens = λ begun settings pairs taken given now.
       opens_more state base (same ∙ now.on) begun settings pairs taken piece given result
       (subst
-      (λ (m : Machine). SessionFeedsMachine (asked state) m base.machine old.manager base.manager old.waiting base.waiting piece result)
+      (λ (m : Machine). SessionFeedsMachine (asked state) state m base.machine old.manager base.manager old.sealing base.sealing old.waiting base.waiting piece result)
       now.machine fed begun settings pairs taken given now.opens);
+  reseals = λ how begun first taken given now.
+      reseals_more state base (same ∙ now.on) how begun first taken piece given result
+      (subst
+      (λ (m : Machine). SessionFeedsMachine (asked state) state m base.machine old.manager base.manager old.sealing base.sealing old.waiting base.waiting piece result)
+      now.machine fed how begun first now.sealing taken given now.is_there now.reseals);
   refused = λ a is. absurd (goes a is);
 }
 
@@ -82,17 +102,23 @@ module _ {M : Type 0} (state : M → ManagerNow) (base : Session M) (off : base.
   opens_last begun settings pairs taken given (Ok done) ends = (off, ends)
   opens_last begun settings pairs taken given (Err reason) ends = (refl, (reason, refl, ends))
 
+  reseals_last : (how : HowResealed) (begun : M × List (List ℕ)) (first sealing : M) (taken given : List ℕ) (result : Result (Unit {0}) Reason) → base.sealing ≡ Some sealing
+      → ResealsEnd (how_asked how (asked state begun) (asked state base.manager) (state first) (state sealing)) how.random taken (given ++ base.waiting) result
+      → ResealsLast state (settled_session base result) how begun first taken given (settled_answer result)
+  reseals_last how begun first sealing taken given (Ok done) there ends = (off, (sealing, there, ends))
+  reseals_last how begun first sealing taken given (Err reason) there ends = (refl, (reason, refl, (sealing, there, ends)))
+
 -- the machine of a session was ended
 pub ended_so : {M : Type 0} (state : M → ManagerNow) (old base : Session M)
-    (result : Result (Unit {0}) Reason) → base.ended ≡ true → base.manager ≡ old.manager
-    → EndsMachine (asked state) old.machine base.machine old.manager old.waiting base.waiting result
+    (result : Result (Unit {0}) Reason) → base.ended ≡ true → base.manager ≡ old.manager → base.sealing ≡ old.sealing
+    → EndsMachine (asked state) state old.machine base.machine old.manager old.sealing old.waiting base.waiting result
     → ((a : Answer) → going_answer old ≡ Some a → ⊥)
     → SessionEnds state old (settled_session base result) (settled_answer result)
-ended_so {M} state old base result off same ends goes = record {
+ended_so {M} state old base result off same there ends goes = record {
   seals = λ v given now.
       seals_last state base off v given result
       (subst
-      (λ (m : Machine). EndsMachine (asked state) m base.machine old.manager old.waiting base.waiting result)
+      (λ (m : Machine). EndsMachine (asked state) state m base.machine old.manager old.sealing old.waiting base.waiting result)
       now.machine ends v given now.seals);
   opens = λ begun settings pairs taken given now.
       opens_last state base off begun settings pairs taken given result
@@ -100,8 +126,16 @@ ended_so {M} state old base result off same ends goes = record {
       (λ (m : M × List (List ℕ)). OpensEnd (asked state) begun m base.waiting settings pairs taken given result)
       (sym same)
       (subst
-      (λ (m : Machine). EndsMachine (asked state) m base.machine old.manager old.waiting base.waiting result)
+      (λ (m : Machine). EndsMachine (asked state) state m base.machine old.manager old.sealing old.waiting base.waiting result)
       now.machine ends begun settings pairs taken given now.opens));
+  reseals = λ how begun first taken given now.
+      reseals_last state base off how begun first now.sealing taken given result (there ∙ now.is_there)
+      (subst
+      (λ (m : M × List (List ℕ)). ResealsEnd (how_asked how (asked state begun) (asked state m) (state first) (state now.sealing)) how.random taken (given ++ base.waiting) result)
+      (sym same)
+      (subst
+      (λ (m : Machine). EndsMachine (asked state) state m base.machine old.manager old.sealing old.waiting base.waiting result)
+      now.machine ends how begun first now.sealing taken given now.is_there now.reseals));
   refused = λ a is. absurd (goes a is);
 }
 
@@ -164,6 +198,18 @@ module _ {M : Type 0} (state : M → ManagerNow) (old : Session M) (waiting : Li
         opens = record { fed = both.0; all = both.1; went = now.opens.went };
       }
 
+  reseals_still : (how : HowResealed) (begun : M × List (List ℕ)) (first : M) (taken given : List ℕ) → ResealsNow state old how begun first taken given
+      → ResealsNow state after how begun first taken (given ++ take count old.waiting)
+  reseals_still how begun first taken given now = record {
+    on = now.on;
+    resealer = now.resealer;
+    machine = now.machine;
+    sealing = now.sealing;
+    is_there = now.is_there;
+    reseals = subst (λ (b : List ℕ). SessionReseals (asked state) state how begun old.manager first now.sealing now.resealer taken b)
+        (sym (moved given old.waiting waiting (given ++ old.waiting) count left refl)) now.reseals;
+  }
+
   pub handed_out : (room : List ℕ) (written : List ℕ) → HandsOut old.waiting room count waiting written
       → HandsOutOf state old room count after written
   handed_out room written out = record {
@@ -172,4 +218,5 @@ module _ {M : Type 0} (state : M → ManagerNow) (old : Session M) (waiting : Li
     kept = λ given total all. moved given old.waiting waiting total count left all;
     seals = seals_still;
     opens = opens_still;
+    reseals = reseals_still;
   }

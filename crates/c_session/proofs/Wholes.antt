@@ -14,7 +14,8 @@ use Rattle.c_session.specs.declared.answer.Answer.TheVariants as answers
 use Rattle.c_session.specs.declared.machine.Machine.{Machine}
 use Rattle.c_session.specs.declared.machine.Machine.TheVariants as machines
 use Rattle.c_session.specs.declared.session.Session.{Session}
-use Rattle.c_session.specs.Session.{SessionEnds, EndsWith, SessionFeeds, OpensLast, OpensMore, OpensRest, SealsLast, SealsMore, SealsRest, going_by}
+use Rattle.c_session.specs.Resealing.{HowResealed}
+use Rattle.c_session.specs.Session.{SessionEnds, EndsWith, SessionFeeds, OpensLast, OpensMore, OpensRest, ResealsLast, ResealsMore, ResealsRest, SealsLast, SealsMore, SealsRest, going_by}
 
 -- ---- the piece wasn't taken
 
@@ -40,12 +41,24 @@ opens_not state new begun settings pairs taken rest given answers.NotText undone
 opens_not state new begun settings pairs taken rest given answers.BadFrame undone more = absurd more
 opens_not state new begun settings pairs taken rest given answers.BadRandom undone more = absurd more
 
+reseals_not : {M : Type 0} (state : M → ManagerNow) (new : Session M) (how : HowResealed) (begun : M × List (List ℕ)) (first : M) (taken rest given : List ℕ) (answer : Answer)
+    → (answer ≡ answers.Done → ⊥) → ResealsMore state new how begun first taken rest given answer → ResealsRest state new how begun first taken rest given answer
+reseals_not state new how begun first taken rest given answers.Done undone more = absurd (undone refl)
+reseals_not state new how begun first taken rest given answers.Failed undone more = (more.0, (more.1.0, more.1.1, (more.1.2.0, more.1.2.1, inl more.1.2.2)))
+reseals_not state new how begun first taken rest given answers.NotNow undone more = absurd more
+reseals_not state new how begun first taken rest given answers.Ended undone more = absurd more
+reseals_not state new how begun first taken rest given answers.NotText undone more = absurd more
+reseals_not state new how begun first taken rest given answers.BadFrame undone more = absurd more
+reseals_not state new how begun first taken rest given answers.BadRandom undone more = absurd more
+
 pub not_fed : {M : Type 0} (state : M → ManagerNow) (old new : Session M) (rest : List ℕ) (answer : Answer)
     → (answer ≡ answers.Done → ⊥) → SessionFeeds state old new rest answer → EndsWith state old new rest answer
 not_fed state old new rest answer undone fed_so = record {
   seals = λ v given now. seals_not new v rest given answer undone (fed_so.seals v given now);
   opens = λ begun settings pairs taken given now.
       opens_not state new begun settings pairs taken rest given answer undone (fed_so.opens begun settings pairs taken given now);
+  reseals = λ how begun first taken given now.
+      reseals_not state new how begun first taken rest given answer undone (fed_so.reseals how begun first taken given now);
   refused = fed_so.refused;
 }
 
@@ -75,12 +88,23 @@ opens_rest state new begun settings pairs taken rest given answers.NotText last 
 opens_rest state new begun settings pairs taken rest given answers.BadFrame last = absurd last
 opens_rest state new begun settings pairs taken rest given answers.BadRandom last = absurd last
 
+reseals_rest : {M : Type 0} (state : M → ManagerNow) (new : Session M) (how : HowResealed) (begun : M × List (List ℕ)) (first : M) (taken rest given : List ℕ) (answer : Answer)
+    → ResealsLast state new how begun first (taken ++ rest) given answer → ResealsRest state new how begun first taken rest given answer
+reseals_rest state new how begun first taken rest given answers.Done last = last
+reseals_rest state new how begun first taken rest given answers.Failed last = (last.0, (last.1.0, last.1.1, (last.1.2.0, last.1.2.1, inr last.1.2.2)))
+reseals_rest state new how begun first taken rest given answers.NotNow last = absurd last
+reseals_rest state new how begun first taken rest given answers.Ended last = absurd last
+reseals_rest state new how begun first taken rest given answers.NotText last = absurd last
+reseals_rest state new how begun first taken rest given answers.BadFrame last = absurd last
+reseals_rest state new how begun first taken rest given answers.BadRandom last = absurd last
+
 -- no call is done that doesn't fit
 never_done : (ended : Bool) (machine : Machine) (a : Answer) → going_by ended machine ≡ Some a → answers.Done ≡ a → ⊥
 never_done true machine a is done = cc
 never_done false machines.SetUp a is done = cc
 never_done false (machines.Sealing sealer) a is done = cc
 never_done false (machines.Opening opener) a is done = cc
+never_done false (machines.Resealing resealer) a is done = cc
 
 pub ends_with : {M : Type 0} (state : M → ManagerNow) (old middle new : Session M) (rest : List ℕ) (answer : Answer)
     → SessionFeeds state old middle rest answers.Done → SessionEnds state middle new answer → EndsWith state old new rest answer
@@ -91,5 +115,8 @@ ends_with state old middle new rest answer fed_so ends = record {
   opens = λ begun settings pairs taken given now.
       opens_rest state new begun settings pairs taken rest given answer
       (ends.opens begun settings pairs (taken ++ rest) given (fed_so.opens begun settings pairs taken given now));
+  reseals = λ how begun first taken given now.
+      reseals_rest state new how begun first taken rest given answer
+      (ends.reseals how begun first (taken ++ rest) given (fed_so.reseals how begun first taken given now));
   refused = λ a is. absurd (never_done old.ended old.machine a is (fed_so.refused a is).0);
 }

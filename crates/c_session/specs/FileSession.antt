@@ -1,40 +1,22 @@
 -- A session over the tree of a keyring file, and what its calls come to.
-use Rattle.std.specs.Prelude.{◌≡◌, ◌⊎◌, ◌≤◌, ◌<◌, ℕ, ◌+◌, ◌*◌, List, [], ◌∷◌, length, Option, Some}
-use Rattle.std.specs.Prelude.{None, Ok, Err, ⊤, slice_get}
-use Rattle.esdk_fields.specs.declared.refusals.FileRefusal.TheVariants.{FileTooLong}
+use Rattle.std.specs.Prelude.{◌≡◌, ℕ, ◌+◌, ◌*◌, List, [], Option, Some, None, Ok, Err}
+use Rattle.std.specs.Prelude.{slice_get}
 use Rattle.context_codec.specs.Context.{KeyValue}
-use Rattle.cmm_default.specs.DefaultCmm.{default_now}
-use Rattle.keyring_file.specs.Found.{wraps_of}
-use Rattle.keyring_file.specs.KeyFile.{tree_of}
-use Rattle.keyring_trait.specs.Manager.{ManagerNow}
-use Rattle.multi_keyring.specs.Nodes.{forest}
-use Rattle.multi_keyring.specs.Tree.{tree_meaning}
-use Rattle.raw_aes_keyring.specs.Keyring.{raw_meaning}
 use Rattle.c_session.specs.declared.answer.Answer.{Answer}
 use Rattle.c_session.specs.declared.answer.Answer.TheVariants as answers
 use Rattle.c_session.specs.declared.file_session.Kept.{Kept}
 use Rattle.c_session.specs.declared.file_session.Kept.TheVariants as kepts
 use Rattle.c_session.specs.declared.reason.Reason.{Reason}
-use Rattle.c_session.specs.declared.reason.Reason.TheVariants as reasons
 use Rattle.c_session.specs.declared.session.Session.{Session}
-use Rattle.c_session.specs.FileTree.{Tree}
+use Rattle.c_session.specs.FileTree.{ReadsTree, Tree, file_state}
 use Rattle.c_session.specs.Reason.{code_of_reason}
 use Rattle.c_session.specs.Session.{HandsOutOf, IsFresh, MachineTellsContext}
-
--- what the manager over a tree is at a moment
-abbrev pub file_state : Tree → ManagerNow
-file_state tree = default_now (tree_meaning raw_meaning tree)
 
 -- The bytes mean this tree, and the session over it is set up; or they are refused, and it has
 -- ended.
 abbrev pub SessionReadsFile : List ℕ → Kept → Type 0
-SessionReadsFile bytes (kepts.Read s) = IsFresh s × (length bytes ≤ 1048576)
-    × (tree_of (wraps_of raw_meaning) bytes [] ≡ Ok (forest (s.manager.0 ∷ [])))
-SessionReadsFile bytes (kepts.Refused (reasons.File refusal)) =
-    ((1048576 < length bytes) × (refusal ≡ FileTooLong))
-    ⊎ (tree_of (wraps_of raw_meaning) bytes [] ≡ Err refusal)
-SessionReadsFile bytes (kepts.Refused reasons.Memory) = ⊤
-SessionReadsFile bytes (kepts.Refused reason) = ⊥
+SessionReadsFile bytes (kepts.Read s) = IsFresh s × ReadsTree bytes (Ok s.manager.0)
+SessionReadsFile bytes (kepts.Refused reason) = ReadsTree bytes (Err reason)
 
 -- The call came to this, of a session whose file was read; any other has ended, and stays as it is.
 abbrev pub KeepsRead : Kept → Kept → Answer → (Session Tree → Session Tree → Type 0) → Type 0

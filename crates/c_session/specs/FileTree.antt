@@ -1,14 +1,20 @@
 -- The tree of a keyring file, and what it is asked about a message. The question is this library's;
 -- what opens a message is said by the AWS Encryption SDK Specification, "Decrypt", "Get the
 -- decryption materials" and "Verify the header".
-use Rattle.std.specs.Prelude.{◌≡◌, ◌⊎◌, ◌<◌, ◌^◌, ℕ, List, [], length, map}
+use Rattle.std.specs.Prelude.{◌≡◌, ◌⊎◌, ◌<◌, ◌≤◌, ◌^◌, ℕ, List, [], ◌∷◌, length, map, ⊤}
 use Rattle.std.specs.Prelude.{unwrap_or, Some, None, Result, Ok, Err}
 use Rattle.esdk_fields.specs.Counts.{Rose}
+use Rattle.esdk_fields.specs.declared.refusals.FileRefusal.TheVariants.{FileTooLong}
+use Rattle.cmm_default.specs.DefaultCmm.{default_now}
 use Rattle.context_codec.specs.Context.{KeyValue}
 use Rattle.header_codec.specs.Header.{HeaderValue}
+use Rattle.keyring_file.specs.Found.{wraps_of}
+use Rattle.keyring_file.specs.KeyFile.{tree_of}
+use Rattle.keyring_trait.specs.Manager.{ManagerNow}
 use Rattle.keyring_trait.specs.Unlocking.{pair_offence}
 use Rattle.keyring_trait.specs.Wrapping.{WrapKeyValue}
 use Rattle.multi_keyring.specs.declared.tree.Node.{Node}
+use Rattle.multi_keyring.specs.Nodes.{forest}
 use Rattle.multi_keyring.specs.Tree.{node_leaves, tree_meaning}
 use Rattle.raw_aes_keyring.specs.Keyring.{raw_meaning}
 use Rattle.audit_core.specs.Asking.{NamesOpeners}
@@ -19,6 +25,20 @@ use Rattle.c_session.specs.declared.reason.Reason.TheVariants as reasons
 -- the tree of raw keys that a file describes
 abbrev pub Tree : Type 0
 Tree = Node WrapKeyValue
+
+-- what the manager over a tree is at a moment
+abbrev pub file_state : Tree → ManagerNow
+file_state tree = default_now (tree_meaning raw_meaning tree)
+
+-- the bytes mean this tree, or are refused; want of memory is free
+abbrev pub ReadsTree : List ℕ → Result Tree Reason → Type 0
+ReadsTree bytes (Ok tree) = (length bytes ≤ 1048576)
+    × (tree_of (wraps_of raw_meaning) bytes [] ≡ Ok (forest (tree ∷ [])))
+ReadsTree bytes (Err (reasons.File refusal)) =
+    ((1048576 < length bytes) × (refusal ≡ FileTooLong))
+    ⊎ (tree_of (wraps_of raw_meaning) bytes [] ≡ Err refusal)
+ReadsTree bytes (Err reasons.Memory) = ⊤
+ReadsTree bytes (Err reason) = ⊥
 
 -- It tells its wrapping keys, and they are fewer than 2^32.
 pub record HasFew (tree : Tree) : Type 0 where

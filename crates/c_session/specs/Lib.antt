@@ -5,10 +5,12 @@ pub mod Front
 pub mod Handed
 pub mod Limits
 pub mod Machine
+pub mod NewKeys
 pub mod NoRange
 pub mod Opening
 pub mod Ranging
 pub mod Reason
+pub mod Resealing
 pub mod Sealing
 pub mod Session
 pub mod Span

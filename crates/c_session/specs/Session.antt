@@ -20,14 +20,21 @@ use Rattle.stream_seal.specs.Feeding.{fed}
 use Rattle.stream_seal.specs.Laws.{IsSameMessage}
 use Rattle.stream_seal.specs.Session.{SealingValue}
 use Rattle.stream_seal.specs.Start.{message_of}
+use Rattle.reseal_core.specs.declared.resealer.Resealer.{Resealer}
+use Rattle.reseal_core.specs.Reseal.{Resealing}
+use Rattle.reseal_core.specs.Session.{ResealingValue}
+use Rattle.reseal_core.specs.Stands.{Stands as StandsResealing}
 use Rattle.c_session.specs.declared.answer.Answer.{Answer}
 use Rattle.c_session.specs.declared.answer.Answer.TheVariants as answers
 use Rattle.c_session.specs.declared.machine.Machine.{Machine}
 use Rattle.c_session.specs.declared.machine.Machine.TheVariants as machines
 use Rattle.c_session.specs.declared.reason.Reason.{Reason}
+use Rattle.c_session.specs.declared.reason.Reason.TheVariants as reasons
 use Rattle.c_session.specs.declared.session.Session.{Session}
 use Rattle.c_session.specs.Beginning.{SessionBeginsNot, SessionBeginsWith}
 use Rattle.c_session.specs.Opening.{SessionOpens, OpensEnd, SessionOpensPiece, SessionReleases}
+use Rattle.c_session.specs.Resealing.{HowResealed, ResealsEnd, ResealsNoMore, ResealsWhole}
+use Rattle.c_session.specs.Resealing.{SessionReseals, how_asked}
 use Rattle.c_session.specs.Sealing.{Seals, SealsEnd, SessionSealsPiece, whole_message}
 use Rattle.c_session.specs.Waiting.{HandsOut}
 
@@ -67,6 +74,26 @@ pub record OpensNow {M : Type 0} (state : M → ManagerNow) (s : Session M)
   pub machine : s.machine ≡ machines.Opening opener
   pub opens : SessionOpens (asked state) begun s.manager opener s.waiting settings pairs taken given
 
+-- It reseals a message of which these bytes were taken, so. Its manager was `begun` when the
+-- message began, that of the new message `first`, and this was given to the caller since.
+pub record ResealsNow {M : Type 0} (state : M → ManagerNow) (s : Session M) (how : HowResealed)
+    (begun : M × List (List ℕ)) (first : M) (taken given : List ℕ) : Type 0 where
+  pub on : s.ended ≡ false
+  pub resealer : Resealer × ℕ
+  pub machine : s.machine ≡ machines.Resealing resealer
+  pub sealing : M
+  pub is_there : s.sealing ≡ Some sealing
+  pub reseals : SessionReseals (asked state) state how begun s.manager first sealing resealer taken
+      (given ++ s.waiting)
+
+-- The manager of the new message is there, and this is so of what `reseal` is asked for with it,
+-- and of what was put: what was given and what waits.
+abbrev pub OfResealing : {M : Type 0} → (M → ManagerNow) → Session M → HowResealed
+    → M × List (List ℕ) → M → List ℕ → (Resealing → List ℕ → Type 0) → Type 0
+OfResealing {M} state s how begun first given so = (sealing : M) × (s.sealing ≡ Some sealing)
+    × so (how_asked how (asked state begun) (asked state s.manager) (state first) (state sealing))
+    (given ++ s.waiting)
+
 -- ---- calls that don't fit
 
 abbrev pub setting_by : Bool → Machine → Option Answer
@@ -74,6 +101,7 @@ setting_by true machine = Some answers.Ended
 setting_by false machines.SetUp = None
 setting_by false (machines.Sealing sealer) = Some answers.NotNow
 setting_by false (machines.Opening opener) = Some answers.NotNow
+setting_by false (machines.Resealing resealer) = Some answers.NotNow
 
 -- why a call that sets it up doesn't fit
 abbrev pub setting_answer : {M : Type 0} → Session M → Option Answer
@@ -84,6 +112,7 @@ going_by true machine = Some answers.Ended
 going_by false machines.SetUp = Some answers.NotNow
 going_by false (machines.Sealing sealer) = None
 going_by false (machines.Opening opener) = None
+going_by false (machines.Resealing resealer) = None
 
 -- why a call that goes on with a message doesn't fit
 abbrev pub going_answer : {M : Type 0} → Session M → Option Answer
@@ -192,6 +221,21 @@ BeginsOpening state old new settings answers.Done = (setting_answer old ≡ None
     × OpensNow state new (with_its_keys old) settings old.pairs [] []
 BeginsOpening state old new settings answer = (setting_answer old ≡ Some answer) × (new ≡ old)
 
+-- A message is resealed from now on, by a manager with its keys and with these pairs; or none is,
+-- as memory ran out.
+abbrev pub ResealsFrom : {M : Type 0} → (M → ManagerNow) → M × List (List ℕ) → List KeyValue
+    → Session M → M → ℕ → Settings → List ℕ → Answer → Type 0
+ResealsFrom state begun pairs new sealing size settings random answers.Done =
+    ResealsNow state new (record {
+      settings = settings;
+      pairs = pairs;
+      size = size;
+      random = random;
+    }) begun sealing [] []
+ResealsFrom state begun pairs new sealing size settings random answers.Failed =
+    Stopped new (λ reason. reason ≡ reasons.Memory)
+ResealsFrom state begun pairs new sealing size settings random answer = ⊥
+
 -- ---- a piece
 
 -- All of the piece was taken into the same message, which goes on.
@@ -219,8 +263,17 @@ OpensMore state new begun settings pairs taken piece given answers.Failed = Stop
     settings pairs taken piece given (Err reason))
 OpensMore state new begun settings pairs taken piece given answer = ⊥
 
--- A piece was fed: to a session that seals, to one that opens, or to one that does neither, which
--- stays as it is.
+abbrev pub ResealsMore : {M : Type 0} → (M → ManagerNow) → Session M → HowResealed
+    → M × List (List ℕ) → M → List ℕ → List ℕ → List ℕ → Answer → Type 0
+ResealsMore state new how begun first taken piece given answers.Done =
+    ResealsNow state new how begun first (taken ++ piece) given
+ResealsMore state new how begun first taken piece given answers.Failed = Stopped new (λ reason.
+    OfResealing state new how begun first given (λ question put.
+    ResealsNoMore question how.random taken piece put reason))
+ResealsMore state new how begun first taken piece given answer = ⊥
+
+-- A piece was fed: to a session that seals, to one that opens, to one that reseals, or to one that
+-- does none of these, which stays as it is.
 pub record SessionFeeds {M : Type 0} (state : M → ManagerNow) (old new : Session M) (piece : List ℕ)
     (answer : Answer) : Type 0 where
   pub seals : (v : SealingValue) (given : List ℕ) → SealsNow old v given
@@ -228,6 +281,9 @@ pub record SessionFeeds {M : Type 0} (state : M → ManagerNow) (old new : Sessi
   pub opens : (begun : M × List (List ℕ)) (settings : Settings) (pairs : List KeyValue)
       (taken given : List ℕ) → OpensNow state old begun settings pairs taken given
       → OpensMore state new begun settings pairs taken piece given answer
+  pub reseals : (how : HowResealed) (begun : M × List (List ℕ)) (first : M) (taken given : List ℕ)
+      → ResealsNow state old how begun first taken given
+      → ResealsMore state new how begun first taken piece given answer
   pub refused : (a : Answer) → going_answer old ≡ Some a → (answer ≡ a) × (new ≡ old)
 
 -- ---- the end
@@ -251,6 +307,17 @@ OpensLast state new begun settings pairs taken given answers.Failed = Stopped ne
     (Err reason))
 OpensLast state new begun settings pairs taken given answer = ⊥
 
+-- the bytes taken are a whole message, and what was given and what waits is the new one
+abbrev pub ResealsLast : {M : Type 0} → (M → ManagerNow) → Session M → HowResealed
+    → M × List (List ℕ) → M → List ℕ → List ℕ → Answer → Type 0
+ResealsLast state new how begun first taken given answers.Done = (new.ended ≡ true)
+    × OfResealing state new how begun first given (λ question put.
+    ResealsWhole question how.random taken put)
+ResealsLast state new how begun first taken given answers.Failed = Stopped new (λ reason.
+    OfResealing state new how begun first given (λ question put.
+    ResealsEnd {T = Unit {0}} question how.random taken put (Err reason)))
+ResealsLast state new how begun first taken given answer = ⊥
+
 pub record SessionEnds {M : Type 0} (state : M → ManagerNow) (old new : Session M)
     (answer : Answer) : Type 0
   where
@@ -259,6 +326,9 @@ pub record SessionEnds {M : Type 0} (state : M → ManagerNow) (old new : Sessio
     pub opens : (begun : M × List (List ℕ)) (settings : Settings) (pairs : List KeyValue)
         (taken given : List ℕ) → OpensNow state old begun settings pairs taken given
         → OpensLast state new begun settings pairs taken given answer
+    pub reseals : (how : HowResealed) (begun : M × List (List ℕ)) (first : M) (taken given : List ℕ)
+        → ResealsNow state old how begun first taken given
+        → ResealsLast state new how begun first taken given answer
     pub refused : (a : Answer) → going_answer old ≡ Some a → (answer ≡ a) × (new ≡ old)
 
 -- ---- the rest of a message at once
@@ -289,6 +359,19 @@ OpensRest state new begun settings pairs taken rest given answers.Failed = Stopp
     (taken ++ rest) given (Err reason))
 OpensRest state new begun settings pairs taken rest given answer = ⊥
 
+-- The bytes taken and these are a whole message, and what was given and what waits is the new one;
+-- or no more is resealed, for a reason.
+abbrev pub ResealsRest : {M : Type 0} → (M → ManagerNow) → Session M → HowResealed
+    → M × List (List ℕ) → M → List ℕ → List ℕ → List ℕ → Answer → Type 0
+ResealsRest state new how begun first taken rest given answers.Done = (new.ended ≡ true)
+    × OfResealing state new how begun first given (λ question put.
+    ResealsWhole question how.random (taken ++ rest) put)
+ResealsRest state new how begun first taken rest given answers.Failed = Stopped new (λ reason.
+    OfResealing state new how begun first given (λ question put.
+    ResealsNoMore question how.random taken rest put reason
+    ⊎ ResealsEnd {T = Unit {0}} question how.random (taken ++ rest) put (Err reason)))
+ResealsRest state new how begun first taken rest given answer = ⊥
+
 -- The rest was fed, and then the message was ended.
 pub record EndsWith {M : Type 0} (state : M → ManagerNow) (old new : Session M) (rest : List ℕ)
     (answer : Answer) : Type 0 where
@@ -297,6 +380,9 @@ pub record EndsWith {M : Type 0} (state : M → ManagerNow) (old new : Session M
   pub opens : (begun : M × List (List ℕ)) (settings : Settings) (pairs : List KeyValue)
       (taken given : List ℕ) → OpensNow state old begun settings pairs taken given
       → OpensRest state new begun settings pairs taken rest given answer
+  pub reseals : (how : HowResealed) (begun : M × List (List ℕ)) (first : M) (taken given : List ℕ)
+      → ResealsNow state old how begun first taken given
+      → ResealsRest state new how begun first taken rest given answer
   pub refused : (a : Answer) → going_answer old ≡ Some a → (answer ≡ a) × (new ≡ old)
 
 -- ---- what waits
@@ -313,13 +399,18 @@ pub record HandsOutOf {M : Type 0} (state : M → ManagerNow) (old : Session M) 
   pub opens : (begun : M × List (List ℕ)) (settings : Settings) (pairs : List KeyValue)
       (taken given : List ℕ) → OpensNow state old begun settings pairs taken given
       → OpensNow state new begun settings pairs taken (given ++ take count old.waiting)
+  pub reseals : (how : HowResealed) (begun : M × List (List ℕ)) (first : M) (taken given : List ℕ)
+      → ResealsNow state old how begun first taken given
+      → ResealsNow state new how begun first taken (given ++ take count old.waiting)
 
 -- ---- the whole context
 
--- This is the whole context of the message that the opener opens, once its header was unlocked. A
--- machine that opens none has none.
+-- This is the whole context of the message that is opened or resealed, once its header was
+-- unlocked. A machine that opens none has none.
 abbrev pub MachineTellsContext : Machine → Option (List KeyValue) → Type 0
 MachineTellsContext machines.SetUp context = context ≡ None
 MachineTellsContext (machines.Sealing sealer) context = context ≡ None
 MachineTellsContext (machines.Opening opener) context =
     (v : OpeningValue) → Stands opener v → context ≡ whole_context v
+MachineTellsContext (machines.Resealing resealer) context =
+    (v : ResealingValue) → StandsResealing resealer.0 v → context ≡ whole_context v.opening

@@ -80,6 +80,7 @@ fn ask_leaves(
         pairs: session.pairs,
         required: session.required,
         machine: session.machine,
+        sealing: session.sealing,
         waiting: session.waiting,
         ended: session.ended,
         reason: session.reason,

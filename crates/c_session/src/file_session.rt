@@ -12,30 +12,29 @@ ghost use Rattle.c_session.specs.Handed.{handed_of};
 ghost use Rattle.c_session.specs.Ranging.{AsksRange};
 ghost use Rattle.c_session.specs.FileSession.{Again, KeepsRead, OfContext, SessionReadsFile};
 ghost use Rattle.c_session.specs.FileSession.{SessionShowsContext, TakesKept, answer_code};
-ghost use Rattle.c_session.specs.FileSession.{drawn_by, file_state, first_answer, kept_code};
+ghost use Rattle.c_session.specs.FileSession.{drawn_by, first_answer, kept_code};
 ghost use Rattle.c_session.specs.FileSession.{pair_at, reason_kept, waiting_in};
+ghost use Rattle.c_session.specs.FileTree.{file_state};
+ghost use Rattle.c_session.specs.NewKeys.{BeginsResealing};
 
 use crate::answer::Answer;
 use crate::asking::{NoAnswer, TreeSession, ask_session};
-use crate::file_tree::FileTree;
+use crate::file_tree::read_manager;
 use crate::handed_bytes::HandedBytes;
 use crate::limits::settings;
+use crate::new_keys::reseal_session;
 use crate::no_range::NoRange;
+use crate::placing::put;
 use crate::ranging::ask_range;
 use crate::reason::Reason;
 use crate::session::Session;
 use crate::telling::show;
 use audit_core::Openers;
-use cmm_default::DefaultCmm;
 use context_codec::{Context, Pair};
-use esdk_fields::{Blob, FileRefusal};
+use esdk_fields::Blob;
 use header_codec::Settings;
-use keyring_file::{TreeError, read_tree};
 use std::alloc::Global;
 use std::mem;
-
-/// The most bytes that a keyring file may have.
-const MOST_FILE: usize = 1_048_576;
 
 /// A session over the tree of a keyring file; or why the file wasn't read.
 #[derive(Drop)]
@@ -223,6 +222,41 @@ impl FileSession {
         }
     }
 
+    /// Begins a message that is resealed: an old one is opened with these limits, by the session's
+    /// tree and with its pairs, and a new one of its text and its whole context is sealed under the
+    /// tree of the keyring file in these bytes, in frames of so many bytes, with these random
+    /// bytes. A file that is refused ends the session.
+    pub fn reseal(
+        &mut self,
+        alloc: Global,
+        file: &[u8],
+        frame_length: u32,
+        settings: Settings,
+        random: &[u8],
+    ) -> Answer
+        ensures { KeepsRead self.old.kept self.new.kept result (λ old new.
+            BeginsResealing old new file.now frame_length settings random.now result) }
+    {
+        match taken(&mut self.kept) {
+            Kept::Refused(reason) => {
+                put(&mut self.kept, Kept::Refused(reason));
+                Answer::Ended
+            }
+            Kept::Read(session) => {
+                let (answer, session) = reseal_session(
+                    alloc,
+                    session,
+                    file,
+                    frame_length,
+                    settings,
+                    random,
+                );
+                put(&mut self.kept, Kept::Read(session));
+                answer
+            }
+        }
+    }
+
     /// Takes a piece, of a text or of a message. What it gives waits.
     pub fn feed(&mut self, alloc: Global, piece: &[u8]) -> Answer
         ensures { KeepsRead self.old.kept self.new.kept result
@@ -235,13 +269,13 @@ impl FileSession {
     }
 
     /// Says that no byte follows. What that gives waits.
-    pub fn finish(&mut self) -> Answer
+    pub fn finish(&mut self, alloc: Global) -> Answer
         ensures { KeepsRead self.old.kept self.new.kept result
             (λ old new. SessionEnds file_state old new result) }
     {
         match &mut self.kept {
             Kept::Refused(_) => Answer::Ended,
-            Kept::Read(session) => session.finish(),
+            Kept::Read(session) => session.finish(alloc),
         }
     }
 
@@ -403,13 +437,6 @@ fn taken(kept: &mut Kept) -> Kept
     mem::replace(kept, Kept::Refused(Reason::Memory))
 }
 
-/// Puts this in the place of what is thrown away.
-fn put(place: &mut Kept, kept: Kept)
-    ensures { place.new ≡ kept }
-{
-    *place = kept;
-}
-
 /// The code of a reason, where there is one.
 fn reason_code(reason: Option<&Reason>) -> u32
     ensures code { result ≡ kept_code (option_copied reason.entry) }
@@ -425,12 +452,8 @@ fn reason_code(reason: Option<&Reason>) -> u32
 fn read(alloc: Global, file: &[u8]) -> Kept
     ensures { SessionReadsFile file.now result }
 {
-    if file.len() > MOST_FILE {
-        return Kept::Refused(Reason::File(FileRefusal::FileTooLong));
-    }
-    match read_tree(alloc, file, Vec::new(alloc)) {
-        Ok(tree) => Kept::Read(Session::new(alloc, DefaultCmm::new(FileTree::new(tree)))),
-        Err(TreeError::File(refusal)) => Kept::Refused(Reason::File(refusal)),
-        Err(TreeError::Memory) => Kept::Refused(Reason::Memory),
+    match read_manager(alloc, file) {
+        Ok(manager) => Kept::Read(Session::new(alloc, manager)),
+        Err(reason) => Kept::Refused(reason),
     }
 }

@@ -4,18 +4,24 @@ ghost use Rattle.std.specs.Prelude.{◌≡◌};
 ghost use Rattle.keyring_trait.specs.Keyring.{KeyringGoes};
 ghost use Rattle.multi_keyring.specs.Tree.{tree_meaning};
 ghost use Rattle.raw_aes_keyring.specs.Keyring.{raw_meaning};
-ghost use Rattle.c_session.specs.FileTree.{AsksTree, HasFew};
+ghost use Rattle.c_session.specs.FileTree.{AsksTree, HasFew, ReadsTree};
 
 use crate::reason::Reason;
 use audit_core::{AuditError, Openers, audit_one};
+use cmm_default::DefaultCmm;
 use context_codec::Context;
 use edk_codec::DataKeyEntry;
+use esdk_fields::FileRefusal;
 use header_codec::Header;
+use keyring_file::{TreeError, read_tree};
 use keyring_trait::{DataKey, Keyring, RingError, RingRefusal, Wrapped};
 use multi_keyring::Node;
 use raw_aes_keyring::RawAes;
 use std::alloc::Global;
 use std::marker::Model;
+
+/// The most bytes that a keyring file may have.
+const MOST_FILE: usize = 1_048_576;
 
 /// The tree of a keyring file. It tells its wrapping keys, and its leaves are so few that they can
 /// be counted. A contract sees the tree.
@@ -106,5 +112,22 @@ impl Keyring for FileTree {
         entries: &[DataKeyEntry],
     ) -> Result<Option<DataKey>, RingError> {
         self.node.on_decrypt(alloc, context, entries)
+    }
+}
+
+/// The manager over the tree of the keyring file in these bytes.
+///
+/// - `File`: the file is refused.
+/// - `Memory`: memory ran out.
+pub(crate) fn read_manager(alloc: Global, file: &[u8]) -> Result<DefaultCmm<FileTree>, Reason>
+    ensures { ReadsTree file.now result }
+{
+    if file.len() > MOST_FILE {
+        return Err(Reason::File(FileRefusal::FileTooLong));
+    }
+    match read_tree(alloc, file, Vec::new(alloc)) {
+        Ok(tree) => Ok(DefaultCmm::new(FileTree::new(tree))),
+        Err(TreeError::File(refusal)) => Err(Reason::File(refusal)),
+        Err(TreeError::Memory) => Err(Reason::Memory),
     }
 }

@@ -1,5 +1,5 @@
-//! One message at a time, sealed or opened by a caller who holds nothing but bytes: what a program
-//! in another language holds of this library.
+//! One message at a time, sealed, opened or resealed by a caller who holds nothing but bytes: what
+//! a program in another language holds of this library.
 #![tactic(auto)]
 
 mod answer;
@@ -14,14 +14,18 @@ mod handed_bytes;
 mod limits;
 mod machine;
 mod message_shelf;
+mod new_keys;
 mod no_range;
 mod opening;
+mod placing;
 mod ranging;
 mod reason;
+mod resealing;
 mod sealing;
 mod session;
 mod span;
 mod telling;
+mod tray;
 mod waiting;
 
 pub use answer::Answer;

@@ -82,6 +82,7 @@ fn take_range(
         pairs: session.pairs,
         required: session.required,
         machine: session.machine,
+        sealing: session.sealing,
         waiting: session.waiting,
         ended: session.ended,
         reason: session.reason,

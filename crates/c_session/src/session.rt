@@ -6,14 +6,16 @@ ghost use Rattle.c_session.specs.declared.answer.Answer.TheVariants.{Failed};
 ghost use Rattle.c_session.specs.Session.{BeginsOpening, BeginsSealing, SessionEnds, EndsWith};
 ghost use Rattle.c_session.specs.Session.{SessionFeeds, HandsOutOf, IsFresh, OpensNow, PairsAs};
 ghost use Rattle.c_session.specs.Session.{RequiresAs, SealsFrom, MachineTellsContext, ended_for};
-ghost use Rattle.c_session.specs.Session.{going_answer, settled_session, setting_answer};
-ghost use Rattle.c_session.specs.Session.{settled_answer};
+ghost use Rattle.c_session.specs.Session.{ResealsFrom, going_answer, settled_session};
+ghost use Rattle.c_session.specs.Session.{setting_answer, settled_answer};
 
 use crate::answer::Answer;
 use crate::beginning::begin_message;
 use crate::machine::{Machine, end_machine, feed_machine};
 use crate::opening::OpenMachine;
+use crate::placing::put;
 use crate::reason::Reason;
+use crate::resealing::ResealMachine;
 use crate::waiting::Waiting;
 use cmm_required::RequiredCmm;
 use context_codec::{Context, KeySet, PairError};
@@ -22,13 +24,15 @@ use keyring_trait::{EncRequest, Manager};
 use std::alloc::Global;
 use std::mem;
 
-/// One message after another, over one materials manager.
+/// One message after another, over one materials manager. While one is resealed, `sealing` is the
+/// manager of the new message.
 #[derive(Drop)]
 pub struct Session<M> {
     pub(crate) manager: RequiredCmm<M>,
     pub(crate) pairs: Context,
     pub(crate) required: KeySet,
     pub(crate) machine: Machine,
+    pub(crate) sealing: Option<M>,
     pub(crate) waiting: Waiting,
     pub(crate) ended: bool,
     pub(crate) reason: Option<Reason>,
@@ -45,6 +49,7 @@ impl<M: Manager> Session<M> {
             pairs: Context::new(alloc),
             required: KeySet::new(alloc),
             machine: Machine::SetUp,
+            sealing: None,
             waiting: Waiting::new(alloc),
             ended: false,
             reason: None,
@@ -56,6 +61,9 @@ impl<M: Manager> Session<M> {
         ensures fresh { IsFresh result }
         ensures manager { result.manager.0 ≡ self.manager.0 }
     {
+        drop(self.machine);
+        drop(self.sealing);
+        drop(self.reason);
         Session::new(alloc, self.manager.into_inner())
     }
 
@@ -71,6 +79,7 @@ impl<M: Manager> Session<M> {
             pairs: self.pairs,
             required: KeySet::new(alloc),
             machine: self.machine,
+            sealing: self.sealing,
             waiting: self.waiting,
             ended: self.ended,
             reason: self.reason,
@@ -115,12 +124,12 @@ impl<M: Manager> Session<M> {
     }
 
     /// The session ends for this reason.
-    fn fail(&mut self, reason: Reason) -> Answer
+    pub(crate) fn fail(&mut self, reason: Reason) -> Answer
         ensures session { self.new ≡ ended_for self.old reason }
         ensures answer { result ≡ Failed }
     {
         self.ended = true;
-        self.reason = Some(reason);
+        put(&mut self.reason, Some(reason));
         Answer::Failed
     }
 
@@ -209,7 +218,7 @@ impl<M: Manager> Session<M> {
         ensures { SealsFrom M.state self.old self.new frame_length declared max_keys random.now
             result }
     {
-        self.waiting = Waiting::new(alloc);
+        put(&mut self.waiting, Waiting::new(alloc));
         let pairs = mem::replace(&mut self.pairs, Context::new(alloc));
         let request = EncRequest::new(alloc, pairs, declared);
         match begin_message(
@@ -222,7 +231,7 @@ impl<M: Manager> Session<M> {
             &mut self.waiting,
         ) {
             Ok(sealer) => {
-                self.machine = Machine::Sealing(sealer);
+                put(&mut self.machine, Machine::Sealing(sealer));
                 Answer::Done
             }
             Err(reason) => self.fail(reason),
@@ -246,10 +255,67 @@ impl<M: Manager> Session<M> {
         requires { self.old.ended ≡ false }
         ensures { OpensNow M.state self.new self.old.manager settings self.old.pairs [] [] }
     {
-        self.waiting = Waiting::new(alloc);
+        put(&mut self.waiting, Waiting::new(alloc));
         let pairs = mem::replace(&mut self.pairs, Context::new(alloc));
         let opener = OpenMachine::new(alloc, &self.manager, settings, pairs);
-        self.machine = Machine::Opening(opener);
+        put(&mut self.machine, Machine::Opening(opener));
+    }
+
+    /// Begins a message that is resealed, where the session is set up: the old one is opened with
+    /// these limits, and the new one sealed by this manager, in frames of so many bytes, with these
+    /// random bytes.
+    pub(crate) fn reseal(
+        self,
+        alloc: Global,
+        sealing: M,
+        frame_length: u32,
+        settings: Settings,
+        random: &[u8],
+    ) -> (Answer, Session<M>)
+        requires on { self.ended ≡ false }
+        requires some { 1 ≤ frame_length }
+        requires drawn { length random.now ≡ 64 + 12 * (M.state sealing).meaning.wraps }
+        ensures { ResealsFrom M.state (self.manager.0, self.required) self.pairs result.1 sealing
+            frame_length settings random.now result.0 }
+    {
+        let mut session = self.with_keys(alloc);
+        let answer = session.begin_reseal(alloc, sealing, frame_length, settings, random);
+        (answer, session)
+    }
+
+    /// The same, where the manager of the old message has its keys.
+    fn begin_reseal(
+        &mut self,
+        alloc: Global,
+        sealing: M,
+        frame_length: u32,
+        settings: Settings,
+        random: &[u8],
+    ) -> Answer
+        requires on { self.old.ended ≡ false }
+        requires some { 1 ≤ frame_length }
+        requires drawn { length random.now ≡ 64 + 12 * (M.state sealing).meaning.wraps }
+        ensures { ResealsFrom M.state self.old.manager self.old.pairs self.new sealing frame_length
+            settings random.now result }
+    {
+        put(&mut self.waiting, Waiting::new(alloc));
+        let pairs = mem::replace(&mut self.pairs, Context::new(alloc));
+        match ResealMachine::new(
+            alloc,
+            &self.manager,
+            &sealing,
+            settings,
+            pairs,
+            frame_length,
+            random,
+        ) {
+            Ok(resealer) => {
+                put(&mut self.machine, Machine::Resealing(resealer));
+                put(&mut self.sealing, Some(sealing));
+                Answer::Done
+            }
+            Err(_) => self.fail(Reason::Memory),
+        }
     }
 
     /// Takes a piece, of a text or of a message. What it gives waits.
@@ -263,6 +329,7 @@ impl<M: Manager> Session<M> {
             alloc,
             &mut self.machine,
             &mut self.manager,
+            &mut self.sealing,
             &mut self.waiting,
             piece,
         );
@@ -270,13 +337,19 @@ impl<M: Manager> Session<M> {
     }
 
     /// Says that no byte follows. What that gives waits.
-    pub fn finish(&mut self) -> Answer
+    pub fn finish(&mut self, alloc: Global) -> Answer
         ensures { SessionEnds M.state self.old self.new result }
     {
         if let Some(answer) = self.going_answer() {
             return answer;
         }
-        let ended = end_machine(&mut self.machine, &self.manager, &mut self.waiting);
+        let ended = end_machine(
+            alloc,
+            &mut self.machine,
+            &self.manager,
+            &self.sealing,
+            &mut self.waiting,
+        );
         self.ended = true;
         self.settle(ended)
     }
@@ -287,7 +360,7 @@ impl<M: Manager> Session<M> {
         ensures { EndsWith M.state self.old self.new rest.now result }
     {
         match self.feed(alloc, rest) {
-            Answer::Done => self.finish(),
+            Answer::Done => self.finish(alloc),
             answer => answer,
         }
     }
@@ -321,6 +394,7 @@ impl<M: Manager> Session<M> {
             Machine::SetUp => None,
             Machine::Sealing(_) => None,
             Machine::Opening(opener) => opener.context(),
+            Machine::Resealing(resealer) => resealer.context(),
         }
     }
 }

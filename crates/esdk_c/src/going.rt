@@ -3,7 +3,8 @@
 ghost use Rattle.std.specs.Prelude.{◌≡◌, false, not, pos};
 ghost use Rattle.c_session.specs.declared.answer.Answer.TheVariants.{Done};
 ghost use Rattle.c_session.specs.Answer.{is_callers, is_done_answer};
-ghost use Rattle.c_session.specs.FileSession.{KeepsRead, file_state};
+ghost use Rattle.c_session.specs.FileSession.{KeepsRead};
+ghost use Rattle.c_session.specs.FileTree.{file_state};
 ghost use Rattle.c_session.specs.Session.{SessionEnds, EndsWith, SessionFeeds};
 ghost use Rattle.esdk_c.specs.Calls.{CalledSo, CallsSession, CallGoesOn, HandsNothing, HandsOutBy};
 ghost use Rattle.esdk_c.specs.Handle.{HoldsNoSession};
@@ -58,7 +59,7 @@ pub extern "C" fn esdk_finish(
     let Some(mut session) = handle.take() else {
         return no_session(written, waits);
     };
-    let answer = session.finish();
+    let answer = session.finish(alloc);
     let silent = answer.is_callers();
     hand_out(alloc, handle, session, answer, silent, room, written, waits)
 }

@@ -1,8 +1,10 @@
 //! The calls that set a session up, and begin a message.
 
 ghost use Rattle.std.specs.Prelude.{◌≡◌, ◌-◌, ◌^◌};
-ghost use Rattle.c_session.specs.FileSession.{Again, KeepsRead, drawn_by, file_state};
+ghost use Rattle.c_session.specs.FileSession.{Again, KeepsRead, drawn_by};
+ghost use Rattle.c_session.specs.FileTree.{file_state};
 ghost use Rattle.c_session.specs.Limits.{reader_settings, some_unless};
+ghost use Rattle.c_session.specs.NewKeys.{BeginsResealing};
 ghost use Rattle.c_session.specs.Session.{BeginsOpening, BeginsSealing, PairsAs, RequiresAs};
 ghost use Rattle.esdk_c.specs.Calls.{CallsSession, MakesSession, Tells};
 ghost use Rattle.esdk_c.specs.Handle.{HoldsNoSession};
@@ -140,6 +142,32 @@ pub extern "C" fn esdk_open(
         return NO_SESSION;
     };
     let answer = session.open(alloc, settings(max_keys, max_unit, uncommitted));
+    give_back(alloc, handle, session, answer)
+}
+
+/// Begins a message that is resealed: an old one is opened with these limits, as by `esdk_open`,
+/// and a new one of its text and its whole context is sealed under the keys of the keyring file in
+/// these bytes, with these random bytes.
+#[unsafe(no_mangle)]
+pub extern "C" fn esdk_reseal_with(
+    alloc: Global,
+    handle: &mut Handle,
+    file: &[u8],
+    frame_length: u32,
+    max_keys: u16,
+    max_unit: u64,
+    uncommitted: bool,
+    random: &[u8],
+) -> i32
+    ensures { CallsSession handle.old handle.new result (λ answer old new.
+        KeepsRead old new answer (λ s t. BeginsResealing s t file.now frame_length
+        (reader_settings max_keys max_unit uncommitted) random.now answer)) }
+{
+    let Some(mut session) = handle.take() else {
+        return NO_SESSION;
+    };
+    let limits = settings(max_keys, max_unit, uncommitted);
+    let answer = session.reseal(alloc, file, frame_length, limits, random);
     give_back(alloc, handle, session, answer)
 }
 

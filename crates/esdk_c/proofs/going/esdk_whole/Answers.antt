@@ -4,7 +4,8 @@ use Rattle.std.proofs.Common.{rules}
 use Rattle.std.proofs.lemmas.Int.{to_z-of_z}
 use Rattle.std.specs.Prelude.{not}
 use Rattle.c_session.specs.Answer.{is_done_answer}
-use Rattle.c_session.specs.FileSession.{KeepsRead, file_state}
+use Rattle.c_session.specs.FileSession.{KeepsRead}
+use Rattle.c_session.specs.FileTree.{file_state}
 use Rattle.c_session.specs.Session.{EndsWith}
 use Rattle.esdk_c.proofs.Called.{called_so, goes_on}
 use Rattle.esdk_c.proofs.going.esdk_whole.Goals as goal

@@ -5,7 +5,7 @@ pub returns-in-Ok : goal.returns-in-Ok
 returns-in-Ok g c = record {
   on = c.requires.on;
   sealer = c.in-Ok.sealer;
-  machine = refl;
+  machine = c.put-in-Ok.ensures;
   begins = rw (c.new-request.ensures, c.replace-pairs.ensures.value) at c.in-Ok.ensures.begins;
 }
 

@@ -1,5 +1,5 @@
 use Rattle.c_session.proofs.Trees.{has_few}
-use Rattle.c_session.proofs.file_session.read.Goals as goal
+use Rattle.c_session.proofs.file_tree.read_manager.Goals as goal
 
 pub new-requires-in-Ok : goal.new-requires-in-Ok
 new-requires-in-Ok c =
