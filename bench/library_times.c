@@ -1,6 +1,7 @@
 /* Times of the library, from C. bench/library builds and runs it.
  *
  *     library_times seal|open KEYRING FILE RUNS           a long text or message, in pieces of 65,536 bytes
+ *     library_times reseal KEYRING FILE RUNS NEW          a long message, which goes to the keys of the keyring file NEW
  *     library_times many KEYRING FILE RUNS COUNT          so many messages of a short text, sealed and then opened
  *
  * It writes the least seconds of the clock, and the least of the processor, of so many runs; of `many` first those of sealing. */
@@ -55,9 +56,15 @@ static uint8_t *file_of(const char *name, size_t *len) {
     return all;
 }
 
+/* The file of the new keys. */
+static uint8_t *new_file;
+static size_t new_len;
+
 static void begin(esdk_handle *handle, const char *what) {
     int32_t code = esdk_again(handle);
-    if (!code) code = what[0] == 's' ? esdk_seal(handle, 4096, ESDK_ANY_LENGTH, 0) : esdk_open(handle, 0, 0, false);
+    if (!code && what[0] == 's') code = esdk_seal(handle, 4096, ESDK_ANY_LENGTH, 0);
+    if (!code && what[0] == 'o') code = esdk_open(handle, 0, 0, false);
+    if (!code && what[0] == 'r') code = esdk_reseal(handle, new_file, new_len, 4096, 0, 0, false);
     if (code) stop("no message is begun");
 }
 
@@ -109,14 +116,15 @@ int main(int count, char **words) {
     esdk_handle handle = ESDK_INIT;
     size_t len;
     uint8_t *file;
-    if (count < 5) stop("seal, open or many");
+    if (count < 5) stop("seal, open, reseal or many");
+    if (words[1][0] == 'r' && count > 5) new_file = file_of(words[5], &new_len);
     file = file_of(words[2], &len);
     if (esdk_check() || esdk_new(&handle, file, len)) stop("no session");
     free(file);
     file = file_of(words[3], &len);
     if (!strcmp(words[1], "many")) time_many(&handle, file, len, atoi(words[4]), atoi(words[5]));
     else time_long(&handle, words[1], file, len, atoi(words[4]));
-    free(file);
+    free(file), free(new_file);
     esdk_close(&handle);
     return 0;
 }

@@ -1,4 +1,4 @@
-// Package esdk seals and opens messages of the AWS Encryption SDK's format, by libesdk, whose sessions are proved.
+// Package esdk seals, opens and reseals messages of the AWS Encryption SDK's format, by libesdk, whose sessions are proved.
 //
 // Of a context, compare what comes back with what you expect: a message of another context under the same key opens as
 // well. What stands in this package isn't proved.

@@ -134,6 +134,14 @@ func (s *session) open(maxKeys uint16, maxUnit uint64, uncommitted bool) error {
 	})
 }
 
+// What is fed is a message, and what it gives a new one under the keys of this file.
+func (s *session) reseal(file []byte, frame uint32, maxKeys uint16, maxUnit uint64, uncommitted bool) error {
+	return s.with(func(handle *C.esdk_handle) C.int32_t {
+		at, size := lent(file)
+		return C.esdk_reseal(handle, at, size, C.uint32_t(frame), C.uint16_t(maxKeys), C.uint64_t(maxUnit), C.bool(uncommitted))
+	})
+}
+
 // Takes the whole piece. What it gives waits: so a piece and a room are never given to one call.
 func (s *session) feed(piece []byte) error {
 	return s.with(func(handle *C.esdk_handle) C.int32_t {

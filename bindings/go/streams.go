@@ -7,7 +7,7 @@ const (
 	mostReads = 100
 )
 
-// Reader reads a message that is sealed, or a text that is opened, of what is read from a source.
+// Reader reads a message that is sealed or resealed, or a text that is opened, of what is read from a source.
 //
 // What is read of a text counts only once Read gave io.EOF, which says that the message was whole. Each part of the text was
 // found right before it is handed out. At a fault the text of the frames before it is handed out, and then each call gives
@@ -19,7 +19,8 @@ type Reader struct {
 	stop    error
 }
 
-// Context is the whole context of a message that is opened, once its header was read; nil before, and of one that is sealed.
+// Context is the whole context of a message that is opened or resealed, once its header was read; nil before, and of one that is
+// sealed.
 func (r *Reader) Context() map[string]string { return r.session.told() }
 
 // Close frees what the library holds. It says nothing of what was read, and doesn't close the source.
@@ -68,7 +69,7 @@ func (r *Reader) step() {
 	r.stop = err
 }
 
-// Writer writes into a sink the message of what is written to it, or the text of the message that is written to it.
+// Writer writes into a sink the message of what is written to it, or the text, or the new message, of the message that is.
 //
 // What is in the sink counts only once Finish gave no error. After an error each call gives one.
 type Writer struct {

@@ -128,17 +128,47 @@ static inline char *line_of(esdk_handle *handle) {
     return line;
 }
 
-/* A session over a keyring file, with the pairs KEY=VALUE, and KEY:=VALUE of a required key. */
+/* The context of a message, on the output: `-` where it isn't known, else hexadecimal digits, a key, `=`, a value and `,` of each
+ * pair. */
+static inline void show_context(esdk_handle *handle) {
+    static uint8_t room[65535];
+    int32_t count = esdk_pairs(handle);
+    if (count < 0) putchar('-');
+    for (int32_t at = 0; at < count; at++) {
+        int32_t len = esdk_pair_key(handle, (size_t)at, room, sizeof room);
+        if (len < 0 || len > (int32_t)sizeof room) stop("a key that isn't there");
+        hex(room, (size_t)len);
+        putchar('=');
+        len = esdk_pair_value(handle, (size_t)at, room, sizeof room);
+        if (len < 0 || len > (int32_t)sizeof room) stop("a value that isn't there");
+        hex(room, (size_t)len);
+        putchar(',');
+    }
+    if (count >= 0 && esdk_pair_key(handle, (size_t)count, room, sizeof room) != -1) stop("a pair too many");
+}
+
+/* A line on the output: the code, the error's line, the context, and what came out, in hexadecimal digits; tabs stand between them. */
+static inline void show_answer(esdk_handle *handle, int32_t code, struct bytes out) {
+    char *line = line_of(handle);
+    printf("%d\t%s\t", code, line);
+    show_context(handle);
+    putchar('\t');
+    hex(out.at, out.len);
+    putchar('\n');
+    free(line);
+}
+
+/* A session over a keyring file, with the pairs KEY=VALUE, KEY:=VALUE of a required key, and the required keys KEY: alone. */
 static inline int32_t begin(esdk_handle *handle, struct bytes ring, char **words, int count) {
     int32_t code = esdk_new(handle, ring.at, ring.len);
     for (int at = 0; at < count && code == ESDK_OK; at++) {
         const char *value = strchr(words[at], '=');
-        if (!value) stop("a pair is KEY=VALUE");
-        size_t len = (size_t)(value - words[at]);
+        size_t len = value ? (size_t)(value - words[at]) : strlen(words[at]);
         bool required = len > 0 && words[at][len - 1] == ':';
         const uint8_t *key = (const uint8_t *)words[at];
+        if (!value && !required) stop("a pair is KEY=VALUE");
         if (required) code = esdk_require(handle, key, --len);
-        if (code == ESDK_OK) code = esdk_pair(handle, key, len, (const uint8_t *)value + 1, strlen(value + 1));
+        if (value && code == ESDK_OK) code = esdk_pair(handle, key, len, (const uint8_t *)value + 1, strlen(value + 1));
     }
     return code;
 }

@@ -57,7 +57,8 @@ def key_file(folder: pathlib.Path, wrappings: list[tuple[str, str, bytes]]) -> s
 
 
 def words_of(given: Given) -> list[str]:
-    return [f"{key}{':' if key in given.required else ''}={value}" for key, value in given.pairs.items()]
+    pairs = [f"{key}{':' if key in given.required else ''}={value}" for key, value in given.pairs.items()]
+    return pairs + [f"{key}:" for key in given.required if key not in given.pairs]
 
 
 def run(words: list[str], text: bytes) -> tuple[int, bytes, str]:

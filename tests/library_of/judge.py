@@ -19,12 +19,13 @@ CASES = pathlib.Path(__file__).resolve().parents[2] / "cases"
 sys.path.insert(0, str(CASES))
 
 import audits  # noqa: E402
+import contexts  # noqa: E402
+import endings  # noqa: E402
 import keyrings  # noqa: E402
 import messages  # noqa: E402
-from contexts import joined  # noqa: E402
 
-# The number behind the letter is the code's, and its family is 1.
-MESSAGE_FAMILY = 1000
+# The number behind the letter is the code's: of a message's fault, of a keyring file's, and of a request's.
+MESSAGE_FAMILY, FILE_FAMILY, REQUEST_FAMILY = 1000, 3000, 6000
 Answer = TypeVar("Answer")
 
 
@@ -77,7 +78,7 @@ class Judged:
 
 def unlocked(header: messages.Header, given: Given) -> tuple[bytes, dict[str, str]]:
     """The data key, and the whole context."""
-    only, whole = joined(header.stored, given.pair_bytes(), given.required_bytes())
+    only, whole = contexts.joined(header.stored, given.pair_bytes(), given.required_bytes())
     data_key = keyrings.open_first(given.tree(), header.entries, whole)
     if data_key is None:
         raise messages.Fault("M15 NoKeyOpens")
@@ -103,9 +104,9 @@ def judge(message: bytes, given: Given) -> Judged:
     return judged
 
 
-def code_of(line: str) -> int:
-    """The code of a message's fault."""
-    return MESSAGE_FAMILY + int(line.split()[0].removeprefix("M"))
+def code_of(line: str, family: int = MESSAGE_FAMILY) -> int:
+    """The code of a line of this family."""
+    return family + int(line.split()[0][1:])
 
 
 def answered(ask: Callable[[], Answer], none: Answer) -> tuple[str, Answer]:
@@ -136,8 +137,34 @@ def openers(message: bytes, tree: keyrings.Multi, pairs: dict[str, str]) -> tupl
 
 def wrapped_by(given: Given, random: bytes) -> tuple[bytes, list[messages.Entry]]:
     """The data key, and its entries: the random bytes of a message are its id, the data key, and an IV of each wrapping."""
-    ivs = [random[at : at + 12] for at in range(64, len(random), 12)]
-    return random[32:64], keyrings.wrap_all(given.tree(), ivs, random[32:64], given.pair_bytes())
+    return random[32:64], keyrings.wrap_all(given.tree(), ivs_of(random), random[32:64], given.pair_bytes())
+
+
+def ivs_of(random: bytes) -> list[bytes]:
+    return [random[at : at + 12] for at in range(64, len(random), 12)]
+
+
+def resealed(message: bytes, given: Given, file: bytes, frame: int, random: bytes) -> Judged:
+    """What is said of a message that goes to the keys of this file. What comes out is the new message; where the old one has a
+    fault, the new header and all frames but the last."""
+    judged = judge(message, given)
+    if judged.context is None:
+        return judged
+    text, judged.text = judged.text, b""
+    tree = keyrings.read_tree(file, [])
+    whole = {key.encode(): value.encode() for key, value in judged.context.items()}
+    stored = messages.read_header(messages.Bytes(message), messages.Limits(uncommitted=given.uncommitted)).stored
+    only = {key: whole[key] for key in whole if key not in stored}
+    try:
+        contexts.refuse_request(whole, set(only), tree)
+    except endings.Ended as ended:
+        return Judged(code_of(ended.line, REQUEST_FAMILY), ended.line, judged.context)
+    message_id, data_key = random[:32], random[32:64]
+    entries = keyrings.wrap_all(tree, ivs_of(random), data_key, whole)
+    header = messages.locked_header(message_id, stored, only, entries, frame, data_key)
+    frames = messages.framed_units(data_key, message_id, frame, text)
+    judged.text = header + b"".join(frames[:-1] if judged.line else frames)
+    return judged
 
 
 def seal(text: bytes, given: Given, frame: int, random: bytes) -> bytes:

@@ -7,34 +7,6 @@ static const char ring[] =
     "\"name\":\"2027\",\"key\":\"gIGCg4SFhoeIiYqLjI2Oj5CRkpOUlZaXmJmam5ydnp8=\"}}]}}}";
 static uint8_t text[1000], drawn[88];
 
-/* What came out, without a request of the test among those that are counted. */
-struct came {
-    uint8_t at[4096];
-    size_t len;
-};
-
-static void keep(struct came *came, const uint8_t *room, size_t written) {
-    if (written > sizeof came->at - came->len) stop("more came than there is");
-    memcpy(came->at + came->len, room, written);
-    came->len += written;
-}
-
-static int32_t all_of_it(esdk_handle *handle, const uint8_t *from, size_t len, struct came *came) {
-    uint8_t room[50];
-    size_t written = 0, waits = 0;
-    int32_t code = ESDK_OK;
-    for (size_t at = 0; at < len && code == ESDK_OK; at += 333) {
-        code = esdk_feed(handle, from + at, len - at < 333 ? len - at : 333, room, sizeof room, &written, &waits);
-        keep(came, room, written);
-    }
-    if (code == ESDK_OK) {
-        code = esdk_finish(handle, room, sizeof room, &written, &waits);
-        keep(came, room, written);
-    }
-    while (waits > 0 && esdk_take(handle, room, sizeof room, &written, &waits) == ESDK_OK) keep(came, room, written);
-    return code;
-}
-
 static int32_t seal(esdk_handle *handle, struct came *message) {
     int32_t code = esdk_pair(handle, (const uint8_t *)"set", 3, (const uint8_t *)"photos", 6);
     if (code == ESDK_OK) code = esdk_pair(handle, (const uint8_t *)"tenant", 6, (const uint8_t *)"acme", 4);
@@ -54,10 +26,6 @@ static int32_t both(esdk_handle *handle, const struct came *right, struct came *
     if (code == ESDK_OK) code = seal(handle, message);
     if (code == ESDK_OK) code = esdk_again(handle);
     return code == ESDK_OK ? open_it(handle, right, back) : code;
-}
-
-static bool is_front(const struct came *came, const uint8_t *whole, size_t len) {
-    return came->len <= len && memcmp(came->at, whole, came->len) == 0;
 }
 
 /* What is right where memory is refused in this way; whether any was. */

@@ -25,23 +25,6 @@ static int ended(esdk_handle *handle, int32_t code) {
     return code == ESDK_OK ? 0 : 1;
 }
 
-static void show_context(esdk_handle *handle) {
-    static uint8_t room[65535];
-    int32_t count = esdk_pairs(handle);
-    if (count < 0) putchar('-');
-    for (int32_t at = 0; at < count; at++) {
-        int32_t len = esdk_pair_key(handle, (size_t)at, room, sizeof room);
-        if (len < 0 || len > (int32_t)sizeof room) stop("a key that isn't there");
-        hex(room, (size_t)len);
-        putchar('=');
-        len = esdk_pair_value(handle, (size_t)at, room, sizeof room);
-        if (len < 0 || len > (int32_t)sizeof room) stop("a value that isn't there");
-        hex(room, (size_t)len);
-        putchar(',');
-    }
-    if (count >= 0 && esdk_pair_key(handle, (size_t)count, room, sizeof room) != -1) stop("a pair too many");
-}
-
 static int seal(char **words, int count) {
     esdk_handle handle = ESDK_INIT;
     struct bytes ring = file_of(words[0]), text = all_of(stdin), out = {0, 0, 0};
@@ -77,19 +60,13 @@ static void open_next(esdk_handle *handle, struct bytes ring, char **pairs, int 
     static bool again;
     struct bytes out = {0, 0, 0};
     int32_t code;
-    char *line;
     if (again && count == 0) code = esdk_again(handle);
     else code = begin(handle, ring, pairs, count);
     again = !again;
     if (code == ESDK_OK) code = esdk_open(handle, (uint16_t)limits[0], limits[1], limits[2] != 0);
     if (code == ESDK_OK) code = pass(handle, way, message.at, message.len, &out);
-    line = line_of(handle);
-    printf("%d\t%s\t", code, line);
-    show_context(handle);
-    putchar('\t');
-    hex(out.at, out.len);
-    putchar('\n');
-    free(line), free(out.at);
+    show_answer(handle, code, out);
+    free(out.at);
 }
 
 static int many(char **words, int count) {

@@ -27,6 +27,7 @@ static void closed_handles(esdk_handle *handle) {
     is("draws", esdk_draws(handle), 0);
     is("seal", esdk_seal(handle, 4096, ESDK_ANY_LENGTH, 0), ESDK_NO_SESSION);
     is("open", esdk_open(handle, 0, 0, false), ESDK_NO_SESSION);
+    is("reseal", esdk_reseal(handle, TEXT(KEY), 4096, 0, 0, false), ESDK_NO_SESSION);
     is("feed", esdk_feed(handle, TEXT("a"), room, sizeof room, &written, &waits), ESDK_NO_SESSION);
     is("finish", esdk_finish(handle, room, sizeof room, &written, &waits), ESDK_NO_SESSION);
     is("take", esdk_take(handle, room, sizeof room, &written, &waits), ESDK_NO_SESSION);
@@ -48,11 +49,15 @@ static void set_up(esdk_handle *handle) {
     is("frame 0", esdk_seal(handle, 0, ESDK_ANY_LENGTH, 0), ESDK_BAD_FRAME);
     is("few random bytes", esdk_seal_with(handle, 4096, ESDK_ANY_LENGTH, 0, random, 75), ESDK_BAD_RANDOM);
     is("many random bytes", esdk_seal_with(handle, 4096, ESDK_ANY_LENGTH, 0, random, 77), ESDK_BAD_RANDOM);
+    is("frame 0 under new keys", esdk_reseal(handle, TEXT(KEY), 0, 0, 0, false), ESDK_BAD_FRAME);
+    is("few random bytes for new keys", esdk_reseal_with(handle, TEXT(KEY), 4096, 0, 0, false, random, 75), ESDK_BAD_RANDOM);
+    is("many random bytes for new keys", esdk_reseal_with(handle, TEXT(KEY), 4096, 0, 0, false, random, 77), ESDK_BAD_RANDOM);
     is("pair", esdk_pair(handle, TEXT("set"), TEXT("photos")), ESDK_OK);
     is("seal", esdk_seal(handle, 4096, ESDK_ANY_LENGTH, 0), ESDK_OK);
     is("seal twice", esdk_seal(handle, 4096, ESDK_ANY_LENGTH, 0), ESDK_NOT_NOW);
     is("pair late", esdk_pair(handle, TEXT("a"), TEXT("b")), ESDK_NOT_NOW);
     is("open late", esdk_open(handle, 0, 0, false), ESDK_NOT_NOW);
+    is("reseal late", esdk_reseal(handle, TEXT(KEY), 4096, 0, 0, false), ESDK_NOT_NOW);
     is("finish", esdk_finish(handle, room, sizeof room, &written, &waits), ESDK_OK);
     is("all there", (long)waits, 0);
     is("finish twice", esdk_finish(handle, room, sizeof room, &written, &waits), ESDK_ENDED);
@@ -83,6 +88,13 @@ static void refusals(esdk_handle *handle) {
     is("file", esdk_new(handle, TEXT("aws-kms 2026 00")), 3004);
     is("ended", esdk_again(handle), ESDK_ENDED);
     is("its line", (long)esdk_error(handle, line, sizeof line), (long)strlen("K4 ReservedNamespace"));
+    is("new", esdk_new(handle, TEXT(KEY)), ESDK_OK);
+    is("new keys", esdk_reseal(handle, TEXT("aws-kms 2026 00"), 4096, 0, 0, false), 3004);
+    is("their line", (long)esdk_error(handle, line, sizeof line), (long)strlen("K4 ReservedNamespace"));
+    is("again", esdk_again(handle), ESDK_OK);
+    is("new keys", esdk_reseal(handle, TEXT(KEY), 4096, 0, 0, false), ESDK_OK);
+    is("no message", esdk_feed(handle, TEXT("hello"), room, sizeof room, &written, &waits), 1001);
+    is("none resealed", (long)(written + waits), 0);
 }
 
 int main(void) {

@@ -16,13 +16,19 @@ static void want(const char *state, const char *call, long long is, long long wa
 
 static const uint8_t *text_of(const char *words) { return (const uint8_t *)words; }
 
-enum state { NEVER, REFUSED, SET_UP, SEALING, OPENING, SEALED, OPENED, FAILED, CLOSED, STATES };
-static const char *const names[] = {"never made", "a refused keyring file", "set up",      "sealing", "opening",
-                                    "sealed",     "opened",                 "failed to open", "closed"};
+enum state { NEVER, REFUSED, SET_UP, SEALING, OPENING, RESEALING, SEALED, OPENED, RESEALED, FAILED, NEW_REFUSED, CLOSED, STATES };
+static const char *const names[] = {"never made", "a refused keyring file", "set up",   "sealing",        "opening",          "resealing",
+                                    "sealed",     "opened",                 "resealed", "failed to open", "refused new keys", "closed"};
 
 /* A whole message of the text `hello` and the pair set=photos. */
 static uint8_t message[1024];
 static size_t message_len;
+
+static const char new_line[] = "backups 2027 808182838485868788898a8b8c8d8e8f909192939495969798999a9b9c9d9e9f";
+
+static int32_t reseal_to(esdk_handle *handle, const char *line, uint32_t frame, size_t random) {
+    return esdk_reseal_with(handle, text_of(line), strlen(line), frame, 0, 0, false, drawn, random);
+}
 
 /* A handle in this state. */
 static void reach(esdk_handle *handle, enum state state) {
@@ -44,6 +50,11 @@ static void reach(esdk_handle *handle, enum state state) {
         esdk_open(handle, 0, 0, false);
         if (state != OPENING) esdk_whole(handle, message, len, room, sizeof room, &written, &waits);
     }
+    if (state == RESEALING || state == RESEALED) {
+        reseal_to(handle, new_line, 4096, sizeof drawn);
+        if (state == RESEALED) esdk_whole(handle, message, len, room, sizeof room, &written, &waits);
+    }
+    if (state == NEW_REFUSED) reseal_to(handle, "a b", 4096, sizeof drawn);
     if (state == CLOSED) esdk_close(handle);
 }
 
@@ -55,15 +66,16 @@ static void want_going(enum state state, const char *call, int32_t code, int32_t
 }
 
 static void calls_in(enum state state) {
-    static const int setting[STATES] = {2001, 2003, 0, 2002, 2002, 2003, 2003, 2003, 2001};
-    static const int going[STATES] = {2001, 2003, 2002, 0, 0, 2003, 2003, 2003, 2001};
-    static const int finishing[STATES] = {2001, 2003, 2002, 0, 1010, 2003, 2003, 2003, 2001};
-    static const int whole[STATES] = {2001, 2003, 2002, 0, 1010, 2003, 2003, 2003, 2001};
-    static const int taking[STATES] = {2001, 0, 0, 0, 0, 0, 0, 0, 2001};
-    static const int again[STATES] = {2001, 2003, 0, 0, 0, 0, 0, 0, 2001};
-    static const int pairs[STATES] = {-1, -1, -1, -1, -1, -1, 1, -2, -1};
-    static const char *const lines[STATES] = {"", "K2 BadShape 1", "", "", "", "", "", "M10 Truncated", ""};
-    static const char *const short_lines[STATES] = {"", "K2 BadShape", "", "", "", "", "", "M10 Truncated", ""};
+    static const int setting[STATES] = {2001, 2003, 0, 2002, 2002, 2002, 2003, 2003, 2003, 2003, 2003, 2001};
+    static const int going[STATES] = {2001, 2003, 2002, 0, 0, 0, 2003, 2003, 2003, 2003, 2003, 2001};
+    static const int finishing[STATES] = {2001, 2003, 2002, 0, 1010, 1010, 2003, 2003, 2003, 2003, 2003, 2001};
+    static const int whole[STATES] = {2001, 2003, 2002, 0, 1010, 1010, 2003, 2003, 2003, 2003, 2003, 2001};
+    static const int taking[STATES] = {2001, 0, 0, 0, 0, 0, 0, 0, 0, 0, 0, 2001};
+    static const int again[STATES] = {2001, 2003, 0, 0, 0, 0, 0, 0, 0, 0, 0, 2001};
+    static const int pairs[STATES] = {-1, -1, -1, -1, -1, -1, -1, 1, 1, -2, -1, -1};
+    static const char *const lines[STATES] = {[REFUSED] = "K2 BadShape 1", [FAILED] = "M10 Truncated", [NEW_REFUSED] = "K2 BadShape 1"};
+    static const char *const short_lines[STATES] = {[REFUSED] = "K2 BadShape", [FAILED] = "M10 Truncated", [NEW_REFUSED] = "K2 BadShape"};
+    const char *wanted = lines[state] ? lines[state] : "", *wanted_name = short_lines[state] ? short_lines[state] : "";
     esdk_handle handle = ESDK_INIT;
     const char *name = names[state];
     char line[64];
@@ -76,11 +88,11 @@ static void calls_in(enum state state) {
         want(name, "esdk_pair_value of no pair", esdk_pair_value(&handle, SIZE_MAX, room, sizeof room), -1);
     }
     memset(line, 0, sizeof line);
-    want(name, "esdk_error", (long long)esdk_error(&handle, (uint8_t *)line, sizeof line), (long long)strlen(lines[state]));
-    want(name, "the line", strcmp(line, lines[state]), 0);
+    want(name, "esdk_error", (long long)esdk_error(&handle, (uint8_t *)line, sizeof line), (long long)strlen(wanted));
+    want(name, "the line", strcmp(line, wanted), 0);
     memset(line, 0, sizeof line);
-    want(name, "esdk_error_name", (long long)esdk_error_name(&handle, (uint8_t *)line, sizeof line), (long long)strlen(short_lines[state]));
-    want(name, "the name", strcmp(line, short_lines[state]), 0);
+    want(name, "esdk_error_name", (long long)esdk_error_name(&handle, (uint8_t *)line, sizeof line), (long long)strlen(wanted_name));
+    want(name, "the name", strcmp(line, wanted_name), 0);
     memset(line, 'x', sizeof line);
     esdk_error(&handle, (uint8_t *)line, 2);
     want(name, "a byte behind the room of a line", line[2], 'x');
@@ -94,6 +106,10 @@ static void calls_in(enum state state) {
     want(name, "esdk_seal", esdk_seal(&handle, 1, 0, 0), setting[state]);
     reach(&handle, state);
     want(name, "esdk_open", esdk_open(&handle, 0, 0, false), setting[state]);
+    reach(&handle, state);
+    want(name, "esdk_reseal_with", reseal_to(&handle, new_line, 1, sizeof drawn), setting[state]);
+    reach(&handle, state);
+    want(name, "esdk_reseal", esdk_reseal(&handle, text_of(new_line), strlen(new_line), 1, 0, 0, false), setting[state]);
     reach(&handle, state);
     want_going(state, "esdk_take", esdk_take(&handle, room, sizeof room, &written, &waits), taking[state]);
     reach(&handle, state);
@@ -139,6 +155,10 @@ static void nothing_is_changed(void) {
     want(name, "a frame of 0 bytes", esdk_seal_with(&handle, 0, 0, 0, drawn, sizeof drawn), ESDK_BAD_FRAME);
     want(name, "a random byte too few", esdk_seal_with(&handle, 4096, 0, 0, drawn, 75), ESDK_BAD_RANDOM);
     want(name, "no random bytes", esdk_seal_with(&handle, 4096, 0, 0, ESDK_NOTHING, 0), ESDK_BAD_RANDOM);
+    want(name, "a frame of 0 bytes under new keys", reseal_to(&handle, new_line, 0, sizeof drawn), ESDK_BAD_FRAME);
+    want(name, "the same, and a file that is refused", reseal_to(&handle, "a b", 0, 0), ESDK_BAD_FRAME);
+    want(name, "a random byte too few for new keys", reseal_to(&handle, new_line, 4096, 75), ESDK_BAD_RANDOM);
+    want(name, "no random bytes for new keys", reseal_to(&handle, new_line, 4096, 0), ESDK_BAD_RANDOM);
     want(name, "esdk_draws", esdk_draws(&handle), 76);
     want(name, "esdk_feed", esdk_feed(&handle, message, 1, room, sizeof room, &written, &waits), ESDK_NOT_NOW);
     want(name, "the message", esdk_seal_with(&handle, 4096, ESDK_ANY_LENGTH, 0, drawn, sizeof drawn), 0);

@@ -48,26 +48,35 @@ static void *one_step(void *of) {
     return 0;
 }
 
-static void from_thread_to_thread(void) {
-    static const char text[] = "a text that is sealed by as many threads as it has pieces";
-    esdk_handle handle = ESDK_INIT;
-    struct bytes message = {0, 0, 0}, back = {0, 0, 0};
-    struct way way = {1, 1, true};
-    if (begin(&handle, ring_of(0), 0, 0) != ESDK_OK || esdk_seal(&handle, 10, ESDK_ANY_LENGTH, 0) != ESDK_OK) stop("no message");
-    for (size_t at = 0; at <= sizeof text; at += 9) {
-        size_t len = at >= sizeof text ? 0 : sizeof text - at < 9 ? sizeof text - at : 9;
-        struct step step = {&handle, len ? (const uint8_t *)text + at : ESDK_NOTHING, len, &message, -1};
+/* All of a text or a message, and its end, each piece by a thread of its own. */
+static struct bytes by_many_threads(esdk_handle *handle, const uint8_t *all, size_t size) {
+    struct bytes out = {0, 0, 0};
+    size_t at = 0, len;
+    do {
+        len = size - at < 9 ? size - at : 9;
+        struct step step = {handle, len ? all + at : ESDK_NOTHING, len, &out, -1};
         pthread_t thread;
         if (pthread_create(&thread, 0, one_step, &step) || pthread_join(thread, 0)) stop("no thread");
         if (step.code != ESDK_OK) stop("a step of a thread");
-        if (len == 0) break;
-        if (len < 9) at = sizeof text - 9;
-    }
-    if (begin(&handle, ring_of(0), 0, 0) != ESDK_OK || esdk_open(&handle, 0, 0, false) != ESDK_OK) stop("no opening");
-    if (pass(&handle, way, message.at, message.len, &back) != ESDK_OK) stop("the message of many threads isn't opened");
+        at += len;
+    } while (len > 0);
+    return out;
+}
+
+/* A message is sealed, moved to new keys, and opened. */
+static void from_thread_to_thread(void) {
+    static const char text[] = "a text that is sealed by as many threads as it has pieces";
+    esdk_handle handle = ESDK_INIT;
+    struct bytes message, moved, back, other = ring_of(1);
+    if (begin(&handle, ring_of(0), 0, 0) != ESDK_OK || esdk_seal(&handle, 10, ESDK_ANY_LENGTH, 0) != ESDK_OK) stop("no message");
+    message = by_many_threads(&handle, (const uint8_t *)text, sizeof text);
+    if (esdk_again(&handle) != ESDK_OK || esdk_reseal(&handle, other.at, other.len, 7, 0, 0, false) != ESDK_OK) stop("no new message");
+    moved = by_many_threads(&handle, message.at, message.len);
+    if (begin(&handle, other, 0, 0) != ESDK_OK || esdk_open(&handle, 0, 0, false) != ESDK_OK) stop("no opening");
+    back = by_many_threads(&handle, moved.at, moved.len);
     if (back.len != sizeof text || memcmp(back.at, text, sizeof text)) stop("another text of many threads");
     esdk_close(&handle);
-    free(message.at), free(back.at);
+    free(message.at), free(moved.at), free(back.at);
 }
 
 int main(void) {

@@ -1,9 +1,11 @@
-"""Seals and opens messages of the AWS Encryption SDK's format, by libesdk, whose sessions are proved.
+"""Seals, opens and reseals messages of the AWS Encryption SDK's format, by libesdk, whose sessions are proved.
 
     ring = esdk.Keyring.from_file("backups.key")
     message, _ = esdk.encrypt(source=b"hello", keyring=ring, encryption_context={"set": "photos"})
     text, header = esdk.decrypt(source=message, keyring=ring)
     header.encryption_context
+
+    new, _ = esdk.reseal(source=message, keyring=ring, new_keyring=esdk.Keyring.from_file("new.key"))
 
     with open("a", "rb") as source, open("a.esdk", "wb") as sink:
         with esdk.stream(mode="e", source=source, keyring=ring) as message:
@@ -59,6 +61,7 @@ __all__ = [
     "decrypt_range",
     "encrypt",
     "list_header",
+    "reseal",
     "span",
     "stream",
 ]
@@ -118,6 +121,7 @@ def stream(
     mode: str,
     source: Any,
     keyring: Keyring,
+    new_keyring: Optional[Keyring] = None,
     encryption_context: Optional[Mapping[str, str]] = None,
     required_encryption_context_keys: Iterable[str] = (),
     frame_length: int = 4096,
@@ -126,23 +130,26 @@ def stream(
     max_body_length: Optional[int] = None,
     allow_uncommitted: bool = False,
 ) -> Stream:
-    """A file object: in mode "e" of the message of the source, in mode "d" of the text of that message.
+    """A file object: in mode "e" of the message of the source, in mode "d" of the text of that message, and in mode "r"
+    of a new message of its text, under the keys of `new_keyring`.
 
-    `source` is bytes-like, and isn't to be changed meanwhile, or a file object. In mode "e": `frame_length` is 1 to
-    4,294,967,295, and with `source_length` no longer text is taken. In mode "d": `max_body_length` is the most bytes
-    of a frame or a single block, and `allow_uncommitted` opens messages of format 1.0, too. A key that is required
-    isn't stored in a message that is sealed; whoever opens it gives its pair. Messages of strangers want both limits.
+    `source` is bytes-like, and isn't to be changed meanwhile, or a file object. In modes "e" and "r": `frame_length` is 1
+    to 4,294,967,295. In mode "e" with `source_length` no longer text is taken. In modes "d" and "r":
+    `max_encrypted_data_keys` and `max_body_length`, the most bytes of a frame or a single block, are those of the message
+    that is read, and `allow_uncommitted` opens messages of format 1.0, too. A key that is required isn't stored in a
+    message that is sealed; whoever opens or reseals it gives its pair. Messages of strangers want both limits.
     """
-    if mode not in ("e", "encrypt", "d", "decrypt"):
-        raise ValueError(f'the mode is "e" or "d", and not {mode!r}')
-    opens = mode.startswith("d")
+    if mode not in ("e", "encrypt", "d", "decrypt", "r", "reseal"):
+        raise ValueError(f'the mode is "e", "d" or "r", and not {mode!r}')
+    mode = mode[0]
     context = dict(encryption_context or {})
     session = Session(keyring._file)
     try:
         _begin(
             session,
-            opens,
+            mode,
             context,
+            new_keyring,
             required_encryption_context_keys,
             frame_length,
             source_length,
@@ -150,10 +157,10 @@ def stream(
             max_body_length,
             allow_uncommitted,
         )
-        if not opens:
+        if mode == "e":
             # What the message begins with waits, and a call that takes nothing says so.
             session.take(_NOWHERE, 0)
-        return Stream(session, Pieces(source), opens, context)
+        return Stream(session, Pieces(source), context if mode == "e" else None)
     except BaseException:
         session.close()
         raise
@@ -162,7 +169,7 @@ def stream(
 def encrypt(*, source: Any, keyring: Keyring, **words: Any) -> tuple[bytes, Header]:
     """The message of a text, and its header. The words are those of `stream`."""
     if type(source) is bytes and len(source) <= WHOLE:
-        return _at_once(False, source, keyring, words)
+        return _at_once("e", source, keyring, words)
     with stream(mode="e", source=source, keyring=keyring, **words) as message:
         return message.read(), message.header
 
@@ -170,9 +177,23 @@ def encrypt(*, source: Any, keyring: Keyring, **words: Any) -> tuple[bytes, Head
 def decrypt(*, source: Any, keyring: Keyring, **words: Any) -> tuple[bytes, Header]:
     """The whole text of a message, and its header, or an exception. The words are those of `stream`."""
     if type(source) is bytes and len(source) <= WHOLE:
-        return _at_once(True, source, keyring, words)
+        return _at_once("d", source, keyring, words)
     with stream(mode="d", source=source, keyring=keyring, **words) as text:
         return text.read(), text.header
+
+
+def reseal(*, source: Any, keyring: Keyring, new_keyring: Keyring, **words: Any) -> tuple[bytes, Header]:
+    """The message of the same text under the keys of `new_keyring`, and its header, or an exception.
+
+    The keys of `keyring` open the message that is the source, with the pairs that are given. The new message has its
+    whole context: pairs that it stores are stored, and those that are only authenticated stay so. Its message id, its
+    data key and its frames are new. The words are those of `stream`.
+    """
+    words["new_keyring"] = new_keyring
+    if type(source) is bytes and len(source) <= WHOLE:
+        return _at_once("r", source, keyring, words)
+    with stream(mode="r", source=source, keyring=keyring, **words) as message:
+        return message.read(), message.header
 
 
 def decrypt_range(
@@ -223,14 +244,14 @@ def list_header(message: Any, uncommitted: bool = False) -> str:
         return listing(*lent, bool(uncommitted))
 
 
-def _at_once(opens: bool, source: bytes, keyring: Keyring, words: dict[str, Any]) -> tuple[bytes, Header]:
+def _at_once(mode: str, source: bytes, keyring: Keyring, words: dict[str, Any]) -> tuple[bytes, Header]:
     """What a stream of these words gives in all, by one call of the library."""
     given = dict(words.pop("encryption_context", None) or {})
     session = keyring._sessions.take()
     try:
-        _begin(session, opens, given, **words)
-        whole = session.whole(source, opens)
-        context = session.whole_context() if opens else given
+        _begin(session, mode, given, **words)
+        whole = session.whole(source, opens=mode == "d")
+        context = given if mode == "e" else session.whole_context()
     finally:
         keyring._sessions.give_back(session)
     assert context is not None
@@ -239,9 +260,10 @@ def _at_once(opens: bool, source: bytes, keyring: Keyring, words: dict[str, Any]
 
 def _begin(
     session: Session,
-    opens: bool,
+    mode: str,
     context: dict[str, str],
     /,
+    new_keyring: Optional[Keyring] = None,
     required_encryption_context_keys: Iterable[str] = (),
     frame_length: int = 4096,
     source_length: Optional[int] = None,
@@ -250,18 +272,24 @@ def _begin(
     allow_uncommitted: bool = False,
 ) -> None:
     """Begins a message by the words of `stream`."""
+    if (new_keyring is None) == (mode == "r"):
+        raise TypeError("new_keyring has the keys that a message is resealed under, and no other mode has it")
     session.context(context, required_encryption_context_keys)
     max_keys, max_unit, length = 0, 0, ANY_LENGTH
     if max_encrypted_data_keys is not None:
         max_keys = _number("max_encrypted_data_keys", max_encrypted_data_keys, 1, 65535)
-    if opens:
-        if max_body_length is not None:
-            max_unit = _number("max_body_length", max_body_length, 1, 2**64 - 1)
+    if mode != "e" and max_body_length is not None:
+        max_unit = _number("max_body_length", max_body_length, 1, 2**64 - 1)
+    if mode == "d":
         session.open(max_keys, max_unit, bool(allow_uncommitted))
+        return
+    frame_length = _number("frame_length", frame_length, 1, 2**32 - 1)
+    if new_keyring is not None:
+        session.reseal(new_keyring._file, frame_length, max_keys, max_unit, bool(allow_uncommitted))
         return
     if source_length is not None:
         length = _number("source_length", source_length, 0, ANY_LENGTH - 1)
-    session.seal(_number("frame_length", frame_length, 1, 2**32 - 1), length, max_keys)
+    session.seal(frame_length, length, max_keys)
 
 
 def _number(name: str, value: int, least: int, most: int) -> int:

@@ -35,6 +35,7 @@ _FUNCTIONS: dict[str, tuple[Any, list[Any]]] = {
     "esdk_require": (c_int32, [_HANDLE, *_BYTES]),
     "esdk_seal": (c_int32, [_HANDLE, c_uint32, c_uint64, c_uint16]),
     "esdk_open": (c_int32, [_HANDLE, c_uint16, c_uint64, c_bool]),
+    "esdk_reseal": (c_int32, [_HANDLE, *_BYTES, c_uint32, c_uint16, c_uint64, c_bool]),
     "esdk_feed": (c_int32, [_HANDLE, *_BYTES, *_BYTES, *_COUNTS]),
     "esdk_finish": (c_int32, [_HANDLE, *_BYTES, *_COUNTS]),
     "esdk_whole": (c_int32, [_HANDLE, *_BYTES, *_BYTES, *_COUNTS]),

@@ -91,6 +91,11 @@ class Session:
     def open(self, max_keys: int, max_unit: int, uncommitted: bool) -> None:
         self._judge(_library.esdk_open(self._at, max_keys, max_unit, uncommitted))
 
+    def reseal(self, file: bytes, frame_length: int, max_keys: int, max_unit: int, uncommitted: bool) -> None:
+        """Begins a message that is opened, and sealed anew under the keys of this file. Nothing of that waits yet."""
+        code = _library.esdk_reseal(self._at, file, len(file), frame_length, max_keys, max_unit, uncommitted)
+        self._judge(code)
+
     def feed(self, address: Any, count: int, room: int = NOTHING, size: int = 0) -> None:
         """Takes a piece. The room, which lies apart from it, gets what it gives; what has no room waits."""
         self._judge(_library.esdk_feed(self._at, address, count, room, size, *self._counts))
@@ -105,7 +110,7 @@ class Session:
         return self._written.value
 
     def whole(self, source: bytes, opens: bool) -> bytes:
-        """The message of a whole text, or the text of a whole message; where that is refused, nothing of it."""
+        """What a whole text or a whole message gives; where that is refused, nothing of it. `opens`: that is a text."""
         room = self._room or self.room()
         self._judge(_library.esdk_whole(self._at, source, len(source), room, _ROOM, *self._counts))
         written = self._written.value
@@ -138,7 +143,7 @@ class Session:
         return self._waits.value
 
     def whole_context(self) -> Optional[dict[str, str]]:
-        """The context of the message that is opened, once its header was unlocked."""
+        """The context of the message that is opened or resealed, once its header was unlocked."""
         count = _library.esdk_pairs(self._at)
         if count < 0:
             return None

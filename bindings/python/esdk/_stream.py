@@ -1,4 +1,4 @@
-"""A message that is sealed or opened as it is read."""
+"""A message that is sealed, opened or resealed as it is read."""
 
 from __future__ import annotations
 
@@ -17,7 +17,7 @@ PIECE = 1 << 16
 
 @dataclass(frozen=True)
 class Header:
-    """What a message's header says. Of one that is opened, compare the context with what you expect."""
+    """What a message's header says. Of one that is opened or resealed, compare the context with what you expect."""
 
     encryption_context: dict[str, str]
 
@@ -55,7 +55,7 @@ class Pieces:
 
 
 class Stream(io.RawIOBase):
-    """A file object to read a message from that is sealed, or a text from that is opened.
+    """A file object to read a message from that is sealed or resealed, or a text from that is opened.
 
     **What is read of a text counts only once the end was reached**: once `read` gave b"", or the loop over the stream
     ended, with no exception. Each part of the text was found right before it is handed out; that it is whole, only
@@ -63,16 +63,17 @@ class Stream(io.RawIOBase):
 
     Where the message has a fault, the text of the frames before it is handed out, and then MessageError is raised, by
     each later call as well. `read()` of everything gives all or raises. What the source raises ends the stream, too,
-    but for BlockingIOError, behind which one may go on.
+    but for BlockingIOError, behind which one may go on. Of a message that is resealed the same holds; what was read of
+    one with a fault is no whole message.
 
     One thread uses it at a time, and another one gets a RuntimeError. The source isn't closed.
     """
 
-    def __init__(self, session: Session, pieces: Pieces, opens: bool, context: dict[str, str]) -> None:
+    def __init__(self, session: Session, pieces: Pieces, context: Optional[dict[str, str]]) -> None:
+        """The context is that of a message that is sealed; else the message that is read has one."""
         super().__init__()
         self._in_use = threading.Lock()
         self._session = session
-        self._opens = opens
         self._context = context
         self._said_end = False
         self._at_end = False
@@ -165,8 +166,8 @@ class Stream(io.RawIOBase):
 
     @property
     def header(self) -> Header:
-        """What the header says. Of a message that is opened, it is read as far as that wants; no text counts by it."""
-        if not self._opens:
+        """What the header says. A message that is opened or resealed is read as far as that wants; nothing counts by it."""
+        if self._context is not None:
             return Header(dict(self._context))
         with self._used():
             context = self._session.whole_context()

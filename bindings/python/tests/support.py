@@ -14,7 +14,7 @@ VECTORS = pathlib.Path(__file__).resolve().parents[3] / "vectors"
 sys.dont_write_bytecode = True
 sys.path.insert(0, str(VECTORS))
 
-from opening import Refused, open_message, seal_block  # noqa: E402
+from opening import Refused, context_text, open_message, seal_block, wrapped  # noqa: E402
 
 KEY = bytes(range(32))
 RING = esdk.Keyring(b"esdk-vectors first " + KEY.hex().encode())

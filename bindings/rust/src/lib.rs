@@ -1,4 +1,4 @@
-//! Seals and opens messages of the AWS Encryption SDK's format, by libesdk, whose sessions are proved.
+//! Seals, opens and reseals messages of the AWS Encryption SDK's format, by libesdk, whose sessions are proved.
 //!
 //! ```no_run
 //! use esdk::{Keyring, Opening, Sealing};
@@ -10,16 +10,18 @@
 //! # Ok::<(), std::io::Error>(())
 //! ```
 //!
-//! `reader` and `writer` are for what is longer than memory. Of a context, compare what comes back with what you expect:
+//! `reader` and `writer` are for what is longer than memory, and `Resealing` moves a message to new keys. Of a context, compare what comes back with what you expect:
 //! a message of another context under the same key opens as well. What stands in this crate isn't proved.
 
 mod error;
 mod ranges;
 mod raw;
+mod resealing;
 mod session;
 mod streams;
 
 pub use error::{Error, Kind};
+pub use resealing::Resealing;
 pub use streams::{Reader, Writer};
 
 use session::Session;

@@ -35,6 +35,15 @@ extern "C" {
     pub fn esdk_require(handle: *mut Handle, key: *const u8, key_len: usize) -> i32;
     pub fn esdk_seal(handle: *mut Handle, frame_length: u32, length: u64, max_keys: u16) -> i32;
     pub fn esdk_open(handle: *mut Handle, max_keys: u16, max_unit: u64, uncommitted: bool) -> i32;
+    pub fn esdk_reseal(
+        handle: *mut Handle,
+        file: *const u8,
+        file_len: usize,
+        frame_length: u32,
+        max_keys: u16,
+        max_unit: u64,
+        uncommitted: bool,
+    ) -> i32;
     pub fn esdk_feed(
         handle: *mut Handle,
         piece: *const u8,

@@ -89,6 +89,21 @@ impl Session {
         self.judge(code)
     }
 
+    /// What is fed is a message, and what it gives a new one under the keys of this file.
+    pub(crate) fn reseal(
+        &mut self,
+        file: &[u8],
+        frame: u32,
+        max_keys: u16,
+        max_unit: u64,
+        uncommitted: bool,
+    ) -> Result<(), Error> {
+        let code = unsafe {
+            raw::esdk_reseal(&mut self.handle, file.as_ptr(), file.len(), frame, max_keys, max_unit, uncommitted)
+        };
+        self.judge(code)
+    }
+
     /// Takes the whole piece; what it gives waits.
     pub(crate) fn feed(&mut self, piece: &[u8]) -> Result<(), Error> {
         let (mut none, mut written) = ([], 0);

@@ -1,4 +1,4 @@
-//! A message that is sealed or opened as it is read, or as it is written.
+//! A message that is sealed, opened or resealed as it is read, or as it is written.
 
 use crate::error::Error;
 use crate::session::Session;
@@ -14,7 +14,7 @@ enum Stop {
     Outside(ErrorKind),
 }
 
-/// Reads a message that is sealed, or a text that is opened, of what is read from a source.
+/// Reads a message that is sealed or resealed, or a text that is opened, of what is read from a source.
 ///
 /// **What is read of a text counts only once `read` gave 0**, which says that the message was whole. Each part of the
 /// text was found right before it is handed out. At a fault the text of the frames before it is handed out, and then
@@ -31,7 +31,8 @@ impl<R: Read> Reader<R> {
         Reader { session, source, piece: vec![0; PIECE], stop: None }
     }
 
-    /// The whole context of a message that is opened, once its header was read; None before, and of one that is sealed.
+    /// The whole context of a message that is opened or resealed, once its header was read; None before, and of one that is
+    /// sealed.
     pub fn context(&mut self) -> Option<Context> {
         self.session.context()
     }
@@ -84,7 +85,7 @@ impl<R: Read> Read for Reader<R> {
     }
 }
 
-/// Writes into a sink the message of what is written to it, or the text of the message that is written to it.
+/// Writes into a sink the message of what is written to it, or the text, or the new message, of the message that is.
 ///
 /// **What is in the sink counts only once `finish` gave Ok.** Without it a message that is sealed isn't whole, and of a
 /// text nobody said that it is. After an error each call gives one.
@@ -100,7 +101,8 @@ impl<W: Write> Writer<W> {
         Writer { session, sink, room: vec![0; PIECE], stop: None }
     }
 
-    /// The whole context of a message that is opened, once its header was written; None before, and of one that is sealed.
+    /// The whole context of a message that is opened or resealed, once its header was written; None before, and of one that
+    /// is sealed.
     pub fn context(&mut self) -> Option<Context> {
         self.session.context()
     }
