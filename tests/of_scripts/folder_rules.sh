@@ -45,6 +45,28 @@ END
     rm -rf mine lent met
 }
 
+# The keyring file of a run stays, whichever file or message has its name, also among many small ones.
+keyring_in_the_way() {
+    mkdir ringing ringed
+    for name in a b c d e f g h i j held; do echo "text of $name" >"ringing/$name"; done
+    run "$share/esdk-tree" encrypt key ringing rung
+    cp key ringed/held.esdk
+    run "$share/esdk-tree" encrypt ringed/held.esdk ringing ringed
+    ended "a keyring file that has a message's name" 1
+    want "that is named" holds report 'esdk-tree: not done: held: the file to be made is the keyring file'
+    want "a keyring file that has a message's name stays" cmp key ringed/held.esdk
+    want "and the others are done" holds output '10 done, 0 kept as they were, 1 not done'
+    cp key ringing/held
+    ln -s ringing/held rings
+    for ring in ringing/held rings; do
+        run "$share/esdk-tree" decrypt --replace "$ring" rung ringing
+        ended "a keyring file that has a file's name" 1
+        want "it is named" holds report 'esdk-tree: not done: held.esdk: the file to be made is the keyring file'
+        want "a keyring file that has a file's name stays" cmp key ringing/held
+    done
+    rm -rf ringing ringed rung rings
+}
+
 # Where a message's file is gone, that is counted; it is moved away where that is asked for, and all of FROM could be read.
 gone_files() {
     mkdir -p live/deep bin

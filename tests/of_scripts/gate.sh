@@ -19,11 +19,12 @@ make_library_maker() {
 }
 
 make_gate() {
+    unset WIDE
     mkdir -p gate/.ci gate/crates/esdk_tool/out with-gate ends
     cp "$top/.ci/run" gate/.ci
     make_check tools/checks
     cp "$top/tools/checks" gate/tools
-    for check in tests/scripts tests/outside tests/library docs/try_pages vectors/make.py docs/pictures/make docs/trusted with-tools/shellcheck with-tools/mandoc; do
+    for check in tests/scripts tests/outside tests/wide tests/library docs/try_pages vectors/make.py docs/pictures/make docs/trusted with-tools/shellcheck with-tools/mandoc; do
         make_check "$check"
     done
     make_library_maker
@@ -125,6 +126,43 @@ failing_checks() {
     done
 }
 
+# Runs the gate on such a processor, where ./esdk ends so for `wide` and for `built --wide`: gate_wide KIND STATUS STATUS [WIDE]
+gate_wide() {
+    printf '#!/bin/sh\necho %s\n' "$1" >gate/tools/choose
+    cat >gate/esdk <<END
+#!/bin/sh
+echo "./esdk \$*" >>"$work/checked"
+case \$1 in wide) exit $2 ;; *) exit $3 ;; esac
+END
+    chmod +x gate/tools/choose gate/esdk
+    : >checked
+    gate_says 0 '5 passed, 0 failed'
+    run env -u ESDK -u ESDK_LIBRARY -u BEHIND_CI WIDE="${4-}" PATH="$work/with-gate:$work/gate/with-tools:$PATH" gate/.ci/run
+    rm gate/tools/choose gate/esdk
+}
+
+# The other program is tried where it is there and this processor is one for it; it is built where that is asked for.
+gate_of_both() {
+    gate_wide x86-64-v2 0 0
+    ended "the gate on another processor" 0
+    want "the gate on another processor leaves the other program out, and says so" grep -qx 'skipped: tests/wide: no x86-64-v3' output
+    gate_wide x86-64-v3 0 70
+    ended "the gate where the other program isn't built" 0
+    want "the gate where it isn't built leaves it out, and says so" grep -qx 'skipped: tests/wide: no esdk_tool_wide' output
+    want "the gate where it isn't built doesn't build it" [ "$(grep '^./esdk' checked)" = './esdk built --wide' ]
+    want "the gate where it isn't built counts the others" last '13 passed, 0 failed'
+    gate_wide x86-64-v3 0 0
+    ended "the gate where it is built" 0
+    want "the gate where it is built tries it" grep -q '^tests/wide ' checked
+    want "the gate where it is built counts that" last '14 passed, 0 failed'
+    gate_wide x86-64-v3 0 0 1
+    want "the gate that is to build it does, behind rt ci and before the checks" [ "$(head -n 3 checked | cut -d ' ' -f 1,2 | tr '\n' ' ')" = 'rt ci ./esdk wide tests/scripts  ' ]
+    want "the gate that is to build it tries it" grep -q '^tests/wide ' checked
+    gate_wide x86-64-v3 70 70 1
+    ended "the gate that is to build it and can't" 1
+    want "the gate that can't build it runs the other checks, and counts it" last '13 passed, 1 failed'
+}
+
 # What is missing is said, and nothing fails by it; a program that is missing does.
 lacking_tools() {
     gate_says 0 '5 passed, 0 failed'
@@ -139,7 +177,7 @@ lacking_tools() {
         ended "the gate without $tool" 0
         want "the gate without $tool says so" grep -q "^skipped: .*: no $tool\$" output
         want "the gate without $tool counts what was skipped" grep -q '^[1-9] skipped: ' output
-        want "the gate without $tool counts all others" last "$((5 + 9 - $(grep -c '^skipped: ' output))) passed, 0 failed"
+        want "the gate without $tool counts all others" last "$((5 + 10 - $(grep -c '^skipped: ' output))) passed, 0 failed"
         mv gate/lacking "gate/with-tools/$tool"
     done
     printf '#!/bin/sh\n[ "$1" != -c ]\n' >gate/with-tools/python3

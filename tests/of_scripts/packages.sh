@@ -64,6 +64,100 @@ package_library() {
     want "package without a library makes the program's alone" [ "$(cd four && echo ./*)" = "./SHA256SUMS ./$archive.tar.gz ./esdk_${version}_amd64.deb" ]
 }
 
+# A package of a program alone says why the other is left out; so it does where that one is of other sources.
+package_of_one() {
+    rm -f checkout/crates/esdk_tool/out/esdk_tool_wide*
+    mkdir six
+    run checkout/esdk package six
+    ended "package of one program" 0
+    want "package of one program says so" grep -q '^esdk: left out the program for processors of x86-64-v3: ' report
+    want "the archive's command is that program" cmp checkout/crates/esdk_tool/out/esdk_tool "two/$archive/bin/esdk"
+    want "there is nothing to choose" [ ! -e "two/$archive/lib" ]
+    : >checkout/crates/low/src/added.rt
+    wide_esdk v3 wide
+    rm checkout/crates/low/src/added.rt
+    run checkout/esdk package six
+    ended "package beside a wide program of other sources" 0
+    want "it is left out" grep -q '^esdk: left out the program for processors of x86-64-v3: ' report
+}
+
+# The command of a folder with both is the program for this kind: command_is WHAT FOLDER KIND
+command_is() {
+    case $3 in
+        x86-64-v2) want "$1: the program for x86-64-v2" cmp checkout/crates/esdk_tool/out/esdk_tool "$2/bin/esdk" ;;
+        *) want "$1: the program for x86-64-v3" [ "$("$2/bin/esdk")" = "the wide one of esdk_tool" ] ;;
+    esac
+    want "$1: nothing is left beside it" [ -z "$(find "$2/bin" -name '.esdk*')" ]
+}
+
+# Turns the link as on such a processor: choose FOLDER CPU WORD..
+choose() {
+    chosen=$1/lib/esdk/choose
+    cpu=$2
+    shift 2
+    run env CPUINFO="$work/cpu-$cpu" "$chosen" "$@"
+}
+
+# What `choose` makes of the command in a folder with both: choices FOLDER
+choices() {
+    command_is "as it is unpacked" "$1" x86-64-v2
+    choose "$1" v3
+    ended "choose on a processor of x86-64-v3" 0
+    want "choose says which it is" holds report 'esdk: the command is the program for x86-64-v3'
+    command_is "choose on a processor of x86-64-v3" "$1" x86-64-v3
+    choose "$1" v2
+    command_is "choose on another" "$1" x86-64-v2
+    choose "$1" v2 x86-64-v3
+    command_is "choose of the other by name" "$1" x86-64-v3
+    choose "$1" missing
+    command_is "choose where nothing is said of the processor" "$1" x86-64-v2
+    choose "$1" v3 x86-64-v4
+    ended "choose of what there isn't" 2
+    rm "$1/bin/esdk"
+    echo "somebody's own" >"$1/bin/esdk"
+    choose "$1" v3
+    ended "choose where the command isn't a link" 70
+    want "choose replaces no file" holds "$1/bin/esdk" "somebody's own"
+}
+
+# What dpkg runs once the files are there, on such a processor: configured CPU WORD..
+configured() {
+    sed "s,/usr/lib/,$work/two/both/usr/lib/," two/control/postinst >configure
+    cpu=$1
+    shift
+    run env CPUINFO="$work/cpu-$cpu" "$@" sh configure configure 1
+    ended "dpkg's configuring" 0
+}
+
+# Packages of both programs, where both are of these sources.
+package_of_both() {
+    mkdir five eight
+    wide_esdk v3 wide
+    SOURCE_DATE_EPOCH=1700000000 run checkout/esdk package five
+    ended "package of both programs" 0
+    want "package of both leaves out none" sh -c '! grep -q "left out the program" report'
+    SOURCE_DATE_EPOCH=1700000000 run checkout/esdk package eight
+    want "two packages of both are the same bytes" diff -r five eight
+    rm -r "two/$archive"
+    tar -C two -xzf "five/$archive.tar.gz"
+    run sh -c 'cd "$1" && sha256sum -c SHA256SUMS' sh "two/$archive"
+    ended "the checksums in the archive of both" 0
+    choices "two/$archive"
+    dpkg-deb -x "five/esdk_${version}_amd64.deb" two/both
+    dpkg-deb -e "five/esdk_${version}_amd64.deb" two/control
+    configured v3
+    command_is "configured on a processor of x86-64-v3" two/both/usr x86-64-v3
+    configured v2
+    command_is "configured on another" two/both/usr x86-64-v2
+    configured v3 DPKG_ROOT=/elsewhere
+    command_is "configured for another machine's folder" two/both/usr x86-64-v2
+    rm two/both/usr/bin/esdk
+    configured v3
+    want "configured without a link: there is none then" [ ! -e two/both/usr/bin/esdk ]
+    dpkg-deb -e "one/esdk_${version}_amd64.deb" two/control.of.one
+    want "a package of one program configures nothing" [ ! -e two/control.of.one/postinst ]
+}
+
 # Every command of this machine but rt.
 without_rt() {
     mkdir no-rt
@@ -78,6 +172,7 @@ packages() {
     version=$(cat "$top/VERSION")
     archive=esdk-$version-x86_64-linux
     mkdir one two four
+    rm -f checkout/crates/esdk_tool/out/esdk_tool_wide*
     make_library
     export ESDK_LIBRARY="$work/library"
     SOURCE_DATE_EPOCH=1700000000 run checkout/esdk package one
@@ -110,6 +205,8 @@ packages() {
     want "each page that its man pages name is there" [ -z "$(while read -r file; do [ -f "two/debian$file" ] || echo "$file"; done <named)" ]
     want "all of it is root's" sh -c 'dpkg-deb -c "$1" | awk "\$2 != \"root/root\" { exit 1 }"' sh "one/esdk_${version}_amd64.deb"
     package_over_links
+    package_of_one
+    package_of_both
     without_rt
     package_library
     unset ESDK_LIBRARY
