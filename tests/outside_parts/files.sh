@@ -55,6 +55,42 @@ names_of_one_file() {
     show_places "a job that writes a file that is read, by another of its names"
 }
 
+# The same, where that job ends before another one reads the file: so the file is known before it is read.
+names_of_a_later_source() {
+    local name
+    : >answers
+    make_folder one
+    for name in $(other_names one other); do
+        job_file one/jobs ring 1 "encrypt nine $name" "encrypt other third"
+        batch_in one 1
+        answered "writing other as $name before it is read" 'status 7, encrypt X3 ShelfFault (direct|none)'
+        [ "$(cat one/other)" = another ] || fail "writing other as $name before it is read" "it changed"
+        opens_as "writing other as $name before it is read" one/third one/other
+        no_parts "writing other as $name before it is read" one
+        rm -f one/third
+    done
+    show_places "a job that writes a file that a later job reads, by another of its names"
+}
+
+# A source of which a read of one job gives nothing, as at its end, though it goes on for another: what came before is the text of that job, it reads nothing behind, and no job reads a place twice.
+source_that_ends_early() {
+    local status=0 often
+    strace -qq -o trace true 2>/dev/null || return 0
+    head -c 300000 plain >source
+    head -c 131072 plain >front
+    job_file early ring 2 "encrypt source early.esdk" "encrypt source whole.esdk"
+    # The two jobs read in turns: the fifth read is the first job's third.
+    strace -qq -o trace -P "$work/source" -e trace=pread64 -e inject=pread64:retval=0:when=5 "$program" batch --jobs early </dev/null >output 2>report || status=$?
+    # strace says of the path what it is.
+    sed -i '/^strace: /d' report
+    ended "a batch of two jobs, for one of which their source ends early" "$status" 0 ''
+    same_text "a source that ends early" output 'job 1 encrypt done direct' 'job 2 encrypt done direct'
+    opens_as "a source that ends early" early.esdk front
+    opens_as "a source that ends early for another job" whole.esdk source
+    often=$(sed -n 's/^pread64(.*, \([0-9]*\)) *= .*/\1/p' trace | sort | uniq -c | awk '$1 > 2 { print $2 }')
+    [ -z "$often" ] || fail "a source that ends early" "a job read it twice at $often"
+}
+
 # Two jobs that write one file by two names: the first is done, the second refused.
 two_names_of_an_output() {
     local name
@@ -375,6 +411,8 @@ os.setxattr("one/open", "system.posix_acl_default", struct.pack("<I", 2) + entri
 
 files_of_a_batch() {
     names_of_one_file
+    names_of_a_later_source
+    source_that_ends_early
     two_names_of_an_output
     links_as_outputs
     no_regular_files
