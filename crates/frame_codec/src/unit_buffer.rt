@@ -25,7 +25,6 @@ pub(crate) struct Span {
 /// its tag is found right; never before. A contract sees a `UnitValue`: how many bytes are
 /// reserved, the bytes that came of the open unit, and the content of the unit that was opened
 /// last.
-#[derive(Drop)]
 pub struct UnitBuffer {
     bytes: Vec<u8>,
     reserved: usize,
@@ -46,6 +45,18 @@ impl Model for UnitBuffer {
     } };
 
     ghost invariant = { λ u. FitsUnit u.opened u.reserved u.bytes.items (vec_capacity u.bytes) };
+}
+
+/// Zeros are written over what it holds before its memory is given back.
+impl Drop for UnitBuffer {
+    fn drop(self) {
+        let UnitBuffer {
+            mut bytes,
+            reserved: _,
+            opened: _,
+        } = self;
+        bytes.fill(0);
+    }
 }
 
 impl UnitBuffer {

@@ -22,7 +22,6 @@ struct Tables {
 /// A key of AES-256-GCM for many texts, with what is made of it alone, so that it isn't made anew
 /// for each text. These tables are large, and lie on the heap, where they stay when the key is
 /// moved. A contract sees the key's 32 bytes.
-#[derive(Drop)]
 pub struct GcmKey {
     tables: Box<Tables>,
 }
@@ -36,6 +35,16 @@ impl Model for GcmKey {
     ghost view = { λ k. k.tables.value.cipher };
 
     ghost invariant = { λ k. k.tables.value.hash.key ≡ hash_key k.tables.value.cipher };
+}
+
+/// The tables of a key of zeros are written over a key's own before their memory is given back.
+impl Drop for GcmKey {
+    fn drop(mut self) {
+        let zeros = Key256::new(&[0; 32]);
+        self.tables.hash = hasher_of(&zeros);
+        self.tables.cipher = zeros;
+        let GcmKey { tables: _ } = self;
+    }
 }
 
 impl GcmKey {

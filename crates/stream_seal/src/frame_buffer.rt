@@ -33,7 +33,6 @@ pub(crate) enum Stage {
 /// A frame that is filled and sealed where it lies, and handed out as a slice. Its memory is
 /// reserved at the start: one frame and 40 bytes. A contract sees a `FrameValue`: the frame length,
 /// the content that came so far, and the frame that was sealed last.
-#[derive(Drop)]
 pub(crate) struct FrameBuffer {
     size: u32,
     bytes: Vec<u8>,
@@ -54,6 +53,18 @@ impl Model for FrameBuffer {
     } };
 
     ghost invariant = { λ f. FitsFrame f.stage f.size f.bytes.items (vec_capacity f.bytes) };
+}
+
+/// Zeros are written over what it holds before its memory is given back.
+impl Drop for FrameBuffer {
+    fn drop(self) {
+        let FrameBuffer {
+            size: _,
+            mut bytes,
+            stage: _,
+        } = self;
+        bytes.fill(0);
+    }
 }
 
 impl FrameBuffer {

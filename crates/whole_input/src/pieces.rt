@@ -23,7 +23,6 @@ pub enum End {
 
 /// An input's bytes, taken piece by piece: at most 65,536 bytes at once, and at most 2^62 in all. A
 /// contract sees a `PiecesValue`: how many bytes were taken so far, and the last piece.
-#[derive(Drop)]
 pub struct Pieces {
     buffer: Vec<u8>,
     count: usize,
@@ -39,6 +38,18 @@ impl Model for Pieces {
     ghost view = { λ p. record { taken = p.taken; piece = take p.count p.buffer.items } };
 
     ghost invariant = { λ p. FitsPieces p.buffer.items p.count p.taken };
+}
+
+/// Zeros are written over the last piece before its memory is given back.
+impl Drop for Pieces {
+    fn drop(self) {
+        let Pieces {
+            mut buffer,
+            count: _,
+            taken: _,
+        } = self;
+        buffer.fill(0);
+    }
 }
 
 impl Pieces {
