@@ -3,7 +3,7 @@
 ghost use Rattle.std.specs.Prelude.{◌≡◌};
 ghost use Rattle.std.specs.Io.{ReadsAtMost};
 ghost use Rattle.esdk_fields.specs.Counts.{CountsGiven, HasCause};
-ghost use Rattle.esdk_seen.specs.Calls.{creates, finishes};
+ghost use Rattle.esdk_seen.specs.Calls.{announces, creates, finishes};
 ghost use Rattle.esdk_base.specs.Told.{TellsAppend, TellsCall, TellsRead, whom};
 ghost use Rattle.esdk_base.specs.Shelf.{AppendsTo, Creates, EndsAt, HasCauseOrMissing, ReadsFrom};
 ghost use Rattle.esdk_base.specs.Shelf.{is_missing};
@@ -31,8 +31,8 @@ pub trait Shelf {
     ghost use Rattle.esdk_base.specs.Streams.{ShelfState};
 
     /// The files, where the shelf tells them; how many bytes it gave so far, and how often it
-    /// failed, each at most 2^64 - 1; and its calls so far but those of `will_read`, in their
-    /// order, with what went through them.
+    /// failed, each at most 2^64 - 1; and its calls so far, in their order, with what went through
+    /// them.
     ghost state: { Self → ShelfState };
 
     /// Puts bytes of the file from the offset `at` on into the front of `out`, and answers how
@@ -72,9 +72,13 @@ pub trait Shelf {
             (state self.new).calls result name.now bytes.now };
 
     /// Says that this name is going to be read, so that nothing is put in the place of what it
-    /// names now. Fails only where memory runs out.
+    /// names now. The files stay as they are. Fails only where memory runs out.
     fn will_read(&mut self, name: &str) -> Result<(), AllocError>
-        ensures { state self.new ≡ state self.old };
+        ensures stays { (state self.new).files ≡ (state self.old).files }
+        ensures given { (state self.new).given ≡ (state self.old).given }
+        ensures faults { (state self.new).faults ≡ (state self.old).faults }
+        ensures calls { TellsCall (state self.old).calls
+            (state self.new).calls result (announces name.now) };
 
     /// Says that no more is appended to this name, which `create` made: what it holds is put in its
     /// place, for these readers. The files stay as they are. After `Failed` others may see in its

@@ -3,7 +3,7 @@ use Rattle.std.proofs.Common.{◌≡◌, ◌<◌, ℕ, zero, suc, List, [], ◌�
 use Rattle.std.specs.Prelude.{Option, Some, zip, filter_map, option_map, Result, Ok, Err, OnOk}
 use Rattle.std.specs.List.{cons_option}
 use Rattle.std.specs.List.Sorted.{IsPermutation}
-use Rattle.std.proofs.lemmas.List.{drop_all, length-map}
+use Rattle.std.proofs.lemmas.List.{length-map}
 use Rattle.esdk_base.specs.Shelf.{Files}
 use Rattle.esdk_base.specs.Streams.{EntropyState, ShelfState}
 use Rattle.keyring_trait.specs.declared.journal.JournalLine.{JournalLine}
@@ -20,7 +20,9 @@ use Rattle.keyring_trait.specs.Saying.{Saying}
 use Rattle.esdk_batch.specs.Underway.{IsAt}
 use Rattle.esdk_batch.specs.Turns.{HasKind, answered_so_far}
 use Rattle.esdk_batch.specs.Rounds.{Beginning, Stand}
-use Rattle.esdk_batch.specs.Watching.{Watch, as_shown, behind_calls, files_by, shown_files}
+use Rattle.esdk_batch.specs.ShelfCalls.{announced}
+use Rattle.esdk_batch.specs.Watching.{Watch, as_shown, files_by, shown_files}
+use Rattle.esdk_batch.proofs.Announced.{told_seen}
 
 -- ---- each job
 
@@ -106,19 +108,19 @@ batch_ends_at manager file v w before after entropy spent lines_before lines_aft
 
 -- ---- as the code says it
 
--- the shelf was only told what is read
+-- the shelf was told what is read
 pub begun_as : (manager : Saying) (file : JobFile) (last : ℕ) (by : Watch) (before mid : ShelfState) (after : Option Files) (entropy spent : EntropyState) (lines_before lines_after : List JournalLine) (lines : List JobLine)
     → mid ≡ before → RunsBatch manager file last (files_by by mid) after entropy spent lines_before lines_after lines → RunsBatch manager file last (files_by by before) after entropy spent lines_before lines_after lines
 begun_as manager file last by before mid after entropy spent lines_before lines_after lines same runs =
     subst (λ (s : ShelfState). RunsBatch manager file last (files_by by s) after entropy spent lines_before lines_after lines) same runs
 
--- the calls that show them are those since then
+-- the calls that show them are those since before then
 pub shown_batch : (manager : Saying) (file : JobFile) (last : ℕ) (before : Files) (old new : ShelfState) (entropy spent : EntropyState) (lines_before lines_after : List JournalLine) (lines : List JobLine)
-    → RunsBatch manager file last (files_by (as_shown (length old.calls) before) old) (files_by (as_shown (length old.calls) before) new) entropy spent lines_before lines_after lines
+    → RunsBatch manager file last (files_by (as_shown (length old.calls) before) (announced file.jobs old)) (files_by (as_shown (length old.calls) before) new) entropy spent lines_before lines_after lines
     → RunsBatch manager file last (Some before) (shown_files before old new) entropy spent lines_before lines_after lines
 shown_batch manager file last before old new entropy spent lines_before lines_after lines runs =
     subst (λ (files : Option Files). RunsBatch manager file last files (shown_files before old new) entropy spent lines_before lines_after lines)
-    (ap (behind_calls (Some before)) (drop_all (length old.calls) old.calls (omega arith))) runs
+    (told_seen before file.jobs old) runs
 
 pub counted_as : (jobs : List Job) (entropy keyring : ℕ) (before mid : ShelfState) (now : Tally) (lines : List JobLine) → mid ≡ before → CountsFailures jobs (tally_of mid entropy keyring) now lines
     → CountsFailures jobs (tally_of before entropy keyring) now lines

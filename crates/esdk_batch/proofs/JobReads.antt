@@ -1,5 +1,5 @@
 -- What reading on adds to the reads of a job's file, and that other calls add none.
-use Rattle.std.proofs.Common.{◌≡◌, ◌≢◌, ◌≤◌, ◌+◌, ◌∙◌, ℕ, zero, suc, Bool, true, false, cond, List, [], ◌∷◌, ◌++◌, length, take, refl, sym, ap, subst, inl, inr, arith, append_assoc, append-nil, length-append}
+use Rattle.std.proofs.Common.{◌≡◌, ◌≢◌, ◌≤◌, ◌+◌, ◌∙◌, ℕ, zero, Bool, true, false, cond, List, [], ◌∷◌, ◌++◌, length, refl, sym, ap, inl, inr, arith, append_assoc, append-nil, length-append}
 use Rattle.std.specs.Prelude.{All, bytes_eq, ◌==◌, if◌then◌else◌}
 use Rattle.std.proofs.lemmas.Bool.{eq-eqb}
 use Rattle.std.proofs.lemmas.Bool.Decides.{eqb_tells}
@@ -11,7 +11,6 @@ use Rattle.esdk_seen.specs.Calls.{ShelfCall, announces, appends, creates, finish
 use Rattle.whole_input.specs.FileReads.{reads_in_row}
 use Rattle.whole_input.specs.FileReadsLaws.{row_behind}
 use Rattle.job_file.specs.declared.job.Job.{Job}
-use Rattle.esdk_batch.specs.declared.progress.Progress.{Progress}
 use Rattle.esdk_batch.specs.declared.progress.Progress.TheVariants as stages
 use Rattle.esdk_batch.specs.JobReads.{IsReadSo, JobTurn, ReadsOnce, ReadsSoFar, all_calls, calls_of, is_read_of, reads_of}
 use Rattle.esdk_batch.specs.ShelfCalls.{IsWrite}

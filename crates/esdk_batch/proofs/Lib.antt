@@ -1,4 +1,5 @@
 pub mod AllCounting
+pub mod Announced
 pub mod Beginnings
 pub mod Beside
 pub mod Conclusion

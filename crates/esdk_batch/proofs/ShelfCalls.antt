@@ -1,5 +1,5 @@
 -- The calls of a shelf, one after another; and that of a job's file the last one finishes it.
-use Rattle.std.proofs.Common.{◌≡◌, ◌≢◌, ◌<◌, ◌≤◌, ◌+◌, ◌∙◌, ℕ, zero, suc, Bool, true, false, List, [], ◌∷◌, ◌++◌, length, get_or, set, map, refl, sym, ap, subst, inl, inr, arith, append_assoc, append-nil, length-set}
+use Rattle.std.proofs.Common.{◌≡◌, ◌≢◌, ◌<◌, ◌≤◌, ◌+◌, ◌∙◌, ℕ, zero, suc, true, false, List, [], ◌∷◌, ◌++◌, length, get_or, set, map, refl, sym, ap, subst, inl, inr, arith, append_assoc, append-nil, length-set}
 use Rattle.std.specs.Prelude.{◌⊎◌, All, OnErr, Result, Ok, Err, bytes_eq}
 use Rattle.std.specs.List.{AllZip}
 use Rattle.std.specs.Cmp.Lexicographic.{bytes_decides}

@@ -39,7 +39,7 @@ some_map : (change : Files → Files) (told : Option Files) → option_and_then 
 some_map change None = refl
 some_map change (Some files) = refl
 
-some_same : (told : Option Files) → option_and_then (λ files. Some files) told ≡ told
+pub some_same : (told : Option Files) → option_and_then (λ files. Some files) told ≡ told
 some_same None = refl
 some_same (Some files) = refl
 

@@ -1,7 +1,8 @@
--- What a batch calls of its shelf, which every shelf tells: whose files it reads, makes, appends to
--- and finishes; and that each job's file is finished once, behind all that is written into it.
+-- What a batch calls of its shelf, which every shelf tells: that it announces first what its jobs
+-- read; whose files it reads, makes, appends to and finishes; and that each job's file is finished
+-- once, behind all that is written into it.
 use Rattle.std.specs.Prelude.{◌≡◌, ◌≢◌, ◌⊎◌, ◌≤◌, ◌<◌, ℕ, Bool, true, false, List, [], ◌∷◌, ◌++◌}
-use Rattle.std.specs.Prelude.{length, All, slice_index_or}
+use Rattle.std.specs.Prelude.{length, map, take, All, slice_index_or}
 use Rattle.std.specs.List.{AllZip, filter, list_any}
 use Rattle.std.specs.Str.{bytes_eq}
 use Rattle.esdk_fields.specs.Counts.{Rose}
@@ -141,7 +142,7 @@ pub record ReadsInTurns (jobs : List Job) (made : List ShelfCall) : Type 0 where
       × ReadsOnce (slice_index_or jobs k job).from
       (reads_of (slice_index_or jobs k job).from (calls_of k turns))
 
--- The calls since a batch began whose jobs stand so.
+-- The calls since the first turn of a batch whose jobs stand so.
 pub record JobsCall (jobs : List Job) (began now : ShelfState) (progress : List Progress)
     : Type 0 where
   pub has : HasCalls (IsOfJobs jobs) began now
@@ -153,16 +154,30 @@ pub record JobsCall (jobs : List Job) (began now : ShelfState) (progress : List 
   pub reads_so : (k : ℕ) (job : Job) (one : Progress) → k < length progress
       → HasTurns (slice_index_or jobs k job) (slice_index_or progress k one) (calls_of k turns)
 
--- The calls since a batch began are of files that its jobs read and write, and each job's file was
+-- The calls since the first turn are of files that the jobs read and write, and each job's file was
 -- finished once at the most.
 pub record CallsAtMost (jobs : List Job) (began now : ShelfState) : Type 0 where
   pub has : HasCalls (IsOfJobs jobs) began now
   pub most : All (λ job. IsFinished job has.made ⊎ FinishesNot job.to has.made) jobs
 
 -- The jobs all ended, and each job's file was finished; or that isn't told, and then the shelf
--- failed since the batch began, and the job isn't done. Each job read its file once.
+-- failed since the first turn, and the job isn't done. Each job read its file once.
 pub record AreFinished (jobs : List Job) (began now : ShelfState) (lines : List JobLine)
     : Type 0 where
   pub has : HasCalls (IsOfJobs jobs) began now
   pub read : ReadsInTurns jobs has.made
   pub over : AllZip (λ job line. JobIsOver job line.end has.made began.faults now.faults) jobs lines
+
+-- ---- what is announced
+
+-- the shelf, behind calls that announce what each of these jobs reads, in their order
+abbrev pub announced : List Job → ShelfState → ShelfState
+announced jobs shelf =
+    record shelf { calls = shelf.calls ++ map (λ job. announces job.from) jobs }
+
+-- However a batch ends: it announced what the first jobs read, so many of them, and that was all;
+-- or it announced what each of them reads, and all other calls came behind that.
+abbrev pub AnnouncesFirst : List Job → ShelfState → ShelfState → Type 0
+AnnouncesFirst jobs old new =
+    ((count : ℕ) × (new ≡ announced (take count jobs) old))
+    ⊎ CallsAtMost jobs (announced jobs old) new

@@ -1,7 +1,7 @@
 //! The whole batch.
 
-ghost use Rattle.std.specs.Prelude.{◌≡◌, ◌≤◌, ◌+◌, ◌-◌, ◌^◌, ℕ, true, All, length, is_some, Some};
-ghost use Rattle.std.specs.Prelude.{IfOk, OnOk};
+ghost use Rattle.std.specs.Prelude.{◌≡◌, ◌≤◌, ◌+◌, ◌-◌, ◌^◌, ℕ, true, All, length, take, is_some};
+ghost use Rattle.std.specs.Prelude.{IfOk, OnOk, Some};
 ghost use Rattle.esdk_base.specs.Shelf.{Files};
 ghost use Rattle.keyring_trait.specs.Manager.{Went};
 ghost use Rattle.keyring_trait.specs.Saying.{said_between};
@@ -11,7 +11,7 @@ ghost use Rattle.esdk_batch.specs.Batch.{OnlyWritten, RunsBatch};
 ghost use Rattle.esdk_batch.specs.Failures.{CountsFailures, tally_of};
 ghost use Rattle.esdk_batch.specs.Moments.{ReadsClock};
 ghost use Rattle.esdk_batch.specs.Progress.{AreEnded, is_ended};
-ghost use Rattle.esdk_batch.specs.ShelfCalls.{AreFinished, CallsAtMost};
+ghost use Rattle.esdk_batch.specs.ShelfCalls.{AnnouncesFirst, AreFinished, announced};
 ghost use Rattle.esdk_batch.specs.Watching.{shown_files};
 
 use crate::progress::{Progress, all_waiting};
@@ -30,7 +30,8 @@ use std::alloc::{AllocError, Global};
 /// Whatever comes, each session that was live before is as it was, and no other has a number that
 /// was drawn before. One number is drawn for each job at the most.
 ///
-/// The shelf is told first which names are going to be read.
+/// The shelf is told first which names the jobs read, in the order of the jobs: no file is read,
+/// made or written before all of them are announced.
 ///
 /// The window is the first jobs that haven't ended, as many as it is wide. In each round every job
 /// in it has one turn, in the order of the jobs. A job's first turn opens it: an encrypt job draws
@@ -79,9 +80,9 @@ pub fn run_batch<M: Manager, F: Shelf, W: Entropy, C: Clock>(
     ensures numbers { last_of desk.new ≤ last_of desk.old + length jobs.now.jobs }
     ensures others { OnlyWritten jobs.now.jobs (F.state shelf.old).files (F.state shelf.new).files }
     ensures told { is_some (F.state shelf.new).files ≡ is_some (F.state shelf.old).files }
-    ensures calls { CallsAtMost jobs.now.jobs (F.state shelf.old) (F.state shelf.new) }
-    ensures finished { IfOk result
-        (AreFinished jobs.now.jobs (F.state shelf.old) (F.state shelf.new)) }
+    ensures calls { AnnouncesFirst jobs.now.jobs (F.state shelf.old) (F.state shelf.new) }
+    ensures finished { IfOk result (AreFinished jobs.now.jobs
+        (announced jobs.now.jobs (F.state shelf.old)) (F.state shelf.new)) }
     ensures failures { IfOk result (CountsFailures jobs.now.jobs
         (tally_of (F.state shelf.old) (W.state entropy.old).faults
         (M.state (manager_of desk.old)).meaning.faults)
@@ -111,9 +112,11 @@ pub fn run_batch<M: Manager, F: Shelf, W: Entropy, C: Clock>(
     report_of(alloc, progress)
 }
 
-/// Tells the shelf which names the jobs read.
+/// Tells the shelf which names the jobs read. Where memory runs out, it was told some of the first.
 fn announce<F: Shelf>(jobs: &[Job], shelf: &mut F) -> Result<(), AllocError>
-    ensures { F.state shelf.new ≡ F.state shelf.old }
+    ensures all { OnOk result (F.state shelf.new ≡ announced jobs.now (F.state shelf.old)) }
+    ensures some { (count : ℕ)
+        × (F.state shelf.new ≡ announced (take count jobs.now) (F.state shelf.old)) }
 {
     for job in jobs {
         shelf.will_read(job.from.as_str())?;

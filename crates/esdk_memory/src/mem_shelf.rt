@@ -10,7 +10,7 @@ ghost use Rattle.esdk_memory.specs.MemShelf.{after_append, after_create, shelf_a
 ghost use Rattle.esdk_memory.specs.MemShelf.{append_faults, create_fails, is_absent, placed};
 ghost use Rattle.esdk_memory.specs.MemShelf.{shelf_read_count, read_fails};
 ghost use Rattle.esdk_memory.specs.MemFiles.{with_room};
-ghost use Rattle.esdk_seen.specs.Calls.{creates, finishes};
+ghost use Rattle.esdk_seen.specs.Calls.{announces, creates, finishes};
 ghost use Rattle.esdk_base.specs.Told.{TellsAppend, TellsCall, TellsRead, whom};
 ghost use Rattle.esdk_base.specs.Shelf.{AppendsTo, Creates, EndsAt, HasCauseOrMissing, ReadsFrom};
 ghost use Rattle.esdk_base.specs.Shelf.{is_missing};
@@ -182,8 +182,11 @@ impl Shelf for MemShelf {
     }
 
     fn will_read(&mut self, name: &str) -> Result<(), AllocError>
-        ensures { self.new ≡ self.old }
+        ensures shelf { self.new ≡ record self.old
+            { calls = self.old.calls ++ announces name.now ∷ [] } }
+        ensures ok { IsOk result }
     {
+        self.calls.see(&Call::Announce(name));
         Ok(())
     }
 

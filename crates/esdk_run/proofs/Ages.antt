@@ -15,7 +15,8 @@ use Rattle.batch_report.specs.declared.job_lines.JobLine.{JobLine}
 use Rattle.esdk_batch.specs.Batch.{RunsBatch, SaysWhatWasServed}
 use Rattle.keyring_trait.specs.Saying.{Saying}
 use Rattle.esdk_batch.specs.Moments.{ReadsClock}
-use Rattle.esdk_batch.specs.ShelfCalls.{CallsAtMost}
+use Rattle.esdk_batch.specs.ShelfCalls.{AnnouncesFirst}
+use Rattle.esdk_batch.proofs.Announced.{first_grows}
 use Rattle.esdk_report.specs.declared.failure.Failure.{Failure}
 use Rattle.esdk_report.specs.Report.{Reports}
 use Rattle.esdk_run.specs.Ages.{ServesFileInTime, ServesInTime, ShowsAges}
@@ -40,14 +41,14 @@ serves_in_time manager file old new entropy spent before after shown clock ticke
 
 -- behind the reads of the job file and of the keyring file
 pub serves_file : {E : Type 0} (name keyring bytes : List ℕ) (old between read new : ShelfState) (file : JobFile) (clock ticked : ClockState) (r : Result (List JobLine) E)
-    → JobsAre old between name file → ReadsWholeFile keyring between.calls read.calls bytes → CallsAtMost file.jobs read new → IfOk r (ServesInTime file clock ticked)
+    → JobsAre old between name file → ReadsWholeFile keyring between.calls read.calls bytes → AnnouncesFirst file.jobs read new → IfOk r (ServesInTime file clock ticked)
     → IfOk r (ServesFileInTime name old new clock ticked)
 serves_file name keyring bytes old between read new file clock ticked (Err error) jobs reads calls serves = tt
 serves_file name keyring bytes old between read new file clock ticked (Ok lines) jobs reads calls serves = record {
   file = file;
   between = between;
   jobs = jobs;
-  grown = grows_more between.calls read.calls new.calls (reads_in_row keyring 0 (reads.pieces ++ [] ∷ []), reads.calls) (calls.has.made, calls.has.calls);
+  grown = grows_more between.calls read.calls new.calls (reads_in_row keyring 0 (reads.pieces ++ [] ∷ []), reads.calls) (first_grows file.jobs read new calls);
   serves = serves;
 }
 

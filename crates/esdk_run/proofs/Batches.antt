@@ -20,7 +20,8 @@ use Rattle.job_file.specs.JobFile.{JobFile}
 use Rattle.batch_report.specs.declared.job_lines.JobLine.{JobLine}
 use Rattle.batch_report.specs.BatchReport.{is_done, report_of}
 use Rattle.esdk_batch.specs.Batch.{OnlyWritten}
-use Rattle.esdk_batch.specs.ShelfCalls.{CallsAtMost}
+use Rattle.esdk_batch.specs.ShelfCalls.{AnnouncesFirst}
+use Rattle.esdk_batch.proofs.Announced.{told_grows}
 use Rattle.esdk_gen.specs.Generator.{gen_line}
 use Rattle.esdk_report.specs.declared.failure.Failure.{Failure}
 use Rattle.esdk_report.specs.declared.failure.Failure.TheVariants as failures
@@ -89,7 +90,7 @@ no_jobs_tree trees name keyring old mid new undrawn file failure same jobs named
 -- or memory ran out behind both files
 pub some_turns : (trees : Trees) (name keyring : List ℕ) (old mid read new : ShelfState) (undrawn : Type 0) (file : JobFile) (tree : KeyringMeaning) → JobsAre old mid name file → keyring ≡ file.keyring
     → TreeIs trees.read mid read keyring tree → IsLawful tree → read.files ≡ mid.files → IfSome trees.kept (TreeOutlasts file.cache tree) → OnlyWritten file.jobs read.files new.files
-    → is_some new.files ≡ is_some read.files → CallsAtMost file.jobs read new → JobsFail trees name old new undrawn failures.Memory
+    → is_some new.files ≡ is_some read.files → AnnouncesFirst file.jobs read new → JobsFail trees name old new undrawn failures.Memory
 some_turns trees name keyring old mid read new undrawn file tree jobs named is lawful stay goes others told calls = inr (record {
   file = file;
   tree = tree;
@@ -135,7 +136,7 @@ all_shown trees name before after code runs =
       lines = runs.lines;
       jobs = runs.runs.has.jobs;
       grown = grows_more runs.runs.has.between.calls runs.runs.read.calls after.shelf.calls (reads_in_row runs.runs.file.keyring 0 (keyring.pieces ++ [] ∷ []), keyring.calls)
-          (runs.runs.finished.has.made, runs.runs.finished.has.calls);
+          (told_grows runs.runs.file.jobs runs.runs.read after.shelf runs.runs.finished.has.made runs.runs.finished.has.calls);
       gained = runs.writes.gained;
       each = each_has_a_line _ _ _ runs.runs.file.jobs ran.draws runs.lines ran.jobs;
       within = shows_limits runs.runs.file.cache _ _ _ runs.runs.file.jobs ran.draws runs.lines ran.gained ran.jobs ran.served

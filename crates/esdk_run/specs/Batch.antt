@@ -16,7 +16,7 @@ use Rattle.batch_report.specs.declared.job_lines.JobLine.{JobLine}
 use Rattle.batch_report.specs.BatchReport.{is_done, report_of}
 use Rattle.esdk_batch.specs.Batch.{OnlyWritten, RunsBatch}
 use Rattle.esdk_batch.specs.Failures.{CountsFailures, tally_of}
-use Rattle.esdk_batch.specs.ShelfCalls.{AreFinished, CallsAtMost}
+use Rattle.esdk_batch.specs.ShelfCalls.{AnnouncesFirst, AreFinished, announced}
 use Rattle.esdk_batch.specs.Watching.{shown_files}
 use Rattle.keyring_trait.specs.Saying.{Saying}
 use Rattle.esdk_report.specs.declared.failure.Failure.{Failure}
@@ -79,8 +79,9 @@ pub record RunsWithin (manager : Saying) (file : JobFile) (old new : ShelfState)
 -- The job file and the keyring file were read, what is left of the tree is given back, and the jobs
 -- had their turns over it. `read` is the shelf once both files were read; it tells its files at the
 -- end where it did then. Each line that says that the shelf, the entropy or a keyring failed is a
--- failure more that it counted, but where the shelf tells that the job's file isn't there. The file
--- of each job was finished, unless the shelf failed and the job isn't done.
+-- failure more that it counted, but where the shelf tells that the job's file isn't there. What the
+-- jobs read was announced first; and the file of each job was finished, unless the shelf failed and
+-- the job isn't done.
 pub record RunsJobFile (trees : Trees) (name : List ℕ) (old new : ShelfState)
     (entropy spent : EntropyState) (lines : List JobLine) : Type 0 where
   pub file : JobFile
@@ -93,14 +94,14 @@ pub record RunsJobFile (trees : Trees) (name : List ℕ) (old new : ShelfState)
   pub runs : RunsWithin (managing_over file.cache tree left) file read new entropy spent lines
   pub others : OnlyWritten file.jobs read.files new.files
   pub told : is_some new.files ≡ is_some read.files
-  pub finished : AreFinished file.jobs read new lines
+  pub finished : AreFinished file.jobs (announced file.jobs read) new lines
   pub failures : CountsFailures file.jobs (tally_of read entropy.faults tree.faults)
       (tally_of new spent.faults left.faults) lines
 
 -- Both files were read; which turns the jobs had isn't said. Of the tree this is left, if something
 -- is given back; no file that the shelf tells changed but those that jobs write, and it tells its
--- files where it did. It was called for these and for those that jobs read, and each job's file was
--- finished once at the most.
+-- files where it did. Before any other call it was told what each job reads; it was called for
+-- these files and for those that jobs read, and each job's file was finished once at the most.
 pub record RunsSomeTurns (trees : Trees) (name : List ℕ) (old new : ShelfState) : Type 0 where
   pub file : JobFile
   pub tree : KeyringMeaning
@@ -109,7 +110,7 @@ pub record RunsSomeTurns (trees : Trees) (name : List ℕ) (old new : ShelfState
   pub goes : IfSome trees.kept (TreeOutlasts file.cache tree)
   pub others : OnlyWritten file.jobs read.files new.files
   pub told : is_some new.files ≡ is_some read.files
-  pub calls : CallsAtMost file.jobs read new
+  pub calls : AnnouncesFirst file.jobs read new
 
 -- The job file of this name was read, no file that the shelf tells changed but those that its jobs
 -- write, and it tells its files where it did before.

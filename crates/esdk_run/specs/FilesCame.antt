@@ -26,7 +26,7 @@ use Rattle.audit_core.specs.Messages.{Message}
 use Rattle.batch_report.specs.declared.job_lines.JobLine.{JobLine}
 use Rattle.batch_report.specs.BatchReport.{report_of}
 use Rattle.esdk_batch.specs.Batch.{AllCome}
-use Rattle.esdk_batch.specs.ShelfCalls.{AreFinished}
+use Rattle.esdk_batch.specs.ShelfCalls.{AreFinished, announced}
 use Rattle.esdk_batch.specs.Watching.{shown_files}
 use Rattle.esdk_decrypt.specs.Told.{Reader}
 use Rattle.esdk_run.specs.AuditTold.{ShowsOpeners}
@@ -114,13 +114,13 @@ pub record ComeToWhatIsShown (manager : Saying) (jobs : List Job) (old new : She
   pub drawn : spent.drawn ≡ entropy.drawn ++ concat draws
   pub come : AllCome manager (Some held) (shown_files held old new) jobs draws lines
 
--- The calls of the shelf read the job file, and then the keyring file that it names. From then on
--- each call read what a job reads, or made what a job writes, appended to it or finished it; and
--- the file of each job was finished once, for those who may read it, behind all that was written
--- into it, or the shelf failed while the jobs ran and the job isn't done; and each job read its
--- file once. Of any files that agree with what each of these reads gave, each job comes to what is
--- said of it, its own file being what was appended to it since it was made. The output gained the
--- report of these lines.
+-- The calls of the shelf read the job file, and then the keyring file that it names; and then they
+-- announced what each job reads, in the order of the jobs. From then on each call read what a job
+-- reads, or made what a job writes, appended to it or finished it; and the file of each job was
+-- finished once, for those who may read it, behind all that was written into it, or the shelf
+-- failed while the jobs ran and the job isn't done; and each job read its file once. Of any files
+-- that agree with what each of these reads gave, each job comes to what is said of it, its own file
+-- being what was appended to it since it was made. The output gained the report of these lines.
 pub record BatchedWhatCame (trees : Trees) (name : List ℕ) (before after : Objects) (code : ℕ)
     : Type 0 where
   pub bytes : List ℕ
@@ -135,6 +135,6 @@ pub record BatchedWhatCame (trees : Trees) (name : List ℕ) (before after : Obj
   pub lines : List JobLine
   pub jobs : (held : Files) → ComeToWhatIsShown (managing_over file.cache tree left) file.jobs
       middle after.shelf before.entropy after.entropy held lines
-  pub finished : AreFinished file.jobs middle after.shelf lines
+  pub finished : AreFinished file.jobs (announced file.jobs middle) after.shelf lines
   pub gained : Appends before.output.written after.output.written (report_of lines)
   pub status : code ≡ status_of lines

@@ -190,9 +190,9 @@ pub record Promises (trees : Trees) (words : Words) (before after : Objects)
       time.after)
   -- `batch`: over any objects, once it is reported, of any files that agree with what the reads
   -- gave each job comes to what is said of it. Behind the job file and the keyring file the shelf
-  -- was called for the files of the jobs alone; the file of each job was finished once, for those
-  -- who may read it, behind all that was written into it, or the shelf failed and the job isn't
-  -- done.
+  -- was told what each job reads, and then called for the files of the jobs alone; the file of each
+  -- job was finished once, for those who may read it, behind all that was written into it, or the
+  -- shelf failed and the job isn't done.
   pub batched : On requests.Batch words
       (λ name. WasRun code → BatchedWhatCame trees name before after code)
   -- `batch`: however it ends, no file that the shelf tells changed but those that jobs write.

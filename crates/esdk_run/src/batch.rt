@@ -4,7 +4,7 @@ ghost use Rattle.esdk_base.specs.Streams.{SinkState, SourceState};
 ghost use Rattle.batch_report.specs.BatchReport.{report_of};
 ghost use Rattle.esdk_batch.specs.Batch.{OnlyWritten};
 ghost use Rattle.esdk_batch.specs.Failures.{CountsFailures, tally_of};
-ghost use Rattle.esdk_batch.specs.ShelfCalls.{AreFinished, CallsAtMost};
+ghost use Rattle.esdk_batch.specs.ShelfCalls.{AnnouncesFirst, AreFinished, announced};
 ghost use Rattle.esdk_run.specs.Ages.{ServesFileInTime, ServesInTime, ShowsAges};
 ghost use Rattle.esdk_run.specs.Batch.{BatchFails, JobsAre, JobsFail, RunsJobFile, RunsWithin};
 ghost use Rattle.esdk_run.specs.Batch.{WritesReport, jobs_in, status_of};
@@ -221,7 +221,8 @@ fn jobs_in(alloc: Global, bytes: &[u8], name: &str) -> Result<Jobs, Failure>
 
 /// Runs the jobs over this tree, and gives back what is left of it. Fails, with nothing run, where
 /// memory for the cache isn't there. Whatever comes, no file changes but those that jobs write, and
-/// the shelf is called for nothing but what the jobs read and write.
+/// the shelf is called for nothing but what the jobs read and write; it is told first what they
+/// read.
 fn run_over<K: Keyring, F: Shelf, W: Entropy, C: Clock>(
     alloc: Global,
     jobs: &Jobs,
@@ -241,11 +242,11 @@ fn run_over<K: Keyring, F: Shelf, W: Entropy, C: Clock>(
         (tally_of (F.state shelf.old) (W.state entropy.old).faults (K.meaning tree).faults)
         (tally_of (F.state shelf.new) (W.state entropy.new).faults
         (K.meaning outcome.tree).faults))) }
-    ensures finished { IfOk result (λ outcome. IfOk outcome.ended
-        (AreFinished jobs.now.jobs (F.state shelf.old) (F.state shelf.new))) }
+    ensures finished { IfOk result (λ outcome. IfOk outcome.ended (AreFinished jobs.now.jobs
+        (announced jobs.now.jobs (F.state shelf.old)) (F.state shelf.new))) }
     ensures others { OnlyWritten jobs.now.jobs (F.state shelf.old).files (F.state shelf.new).files }
     ensures told { is_some (F.state shelf.new).files ≡ is_some (F.state shelf.old).files }
-    ensures calls { CallsAtMost jobs.now.jobs (F.state shelf.old) (F.state shelf.new) }
+    ensures calls { AnnouncesFirst jobs.now.jobs (F.state shelf.old) (F.state shelf.new) }
 {
     let manager = CachingCmm::new(alloc, DefaultCmm::new(tree), jobs.cache())?;
     // Called for its clauses alone, which say what every manager keeps.

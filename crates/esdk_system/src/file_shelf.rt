@@ -143,11 +143,12 @@ impl Shelf for FileShelf {
     }
 
     fn will_read(&mut self, name: &str) -> Result<(), AllocError> {
-        match fs::metadata(&self.rt, name) {
-            Ok(metadata) => self.known.remember(Identity::of(&metadata)),
-            // What can't be looked at now is known once it is read.
-            Err(_) => Ok(()),
+        // What can't be looked at now is known once it is read.
+        if let Ok(metadata) = fs::metadata(&self.rt, name) {
+            self.known.remember(Identity::of(&metadata))?;
         }
+        self.calls.see(&Call::Announce(name));
+        Ok(())
     }
 
     fn finish(&mut self, name: &str, readers: Readers) -> Result<(), Failed> {

@@ -100,6 +100,7 @@ impl Shelf for PlacingShelf {
     }
 
     fn will_read(&mut self, name: &str) -> Result<(), AllocError> {
+        self.calls.see(&Call::Announce(name));
         Ok(())
     }
 

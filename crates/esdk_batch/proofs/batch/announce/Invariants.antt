@@ -1,6 +1,7 @@
--- The shelf stays as it was.
-use Rattle.std.proofs.Common.{◌≡◌}
+-- The shelf was told what each job before this one reads.
+use Rattle.std.proofs.Common.{◌≡◌, take}
+use Rattle.esdk_batch.specs.ShelfCalls.{announced}
 use Rattle.esdk_batch.proofs.batch.announce.Given as goal
 
 abbrev pub invariant-loop-job : goal.invariant-loop-job
-invariant-loop-job g l = record { same : g.F.Shelf.state l.shelf ≡ g.F.Shelf.state l.fn.shelf }
+invariant-loop-job g l = record { told : g.F.Shelf.state l.shelf ≡ announced (take l.job-index l.jobs) (g.F.Shelf.state l.fn.shelf) }

@@ -1,5 +1,5 @@
 -- No job had a turn yet; and all ended.
-use Rattle.std.proofs.Common.{◌≡◌, ◌≤◌, length, arith, ap, refl, sym, subst, ◌∙◌}
+use Rattle.std.proofs.Common.{◌≡◌, ◌≤◌, length, arith, ap, inr, refl, sym, subst, ◌∙◌}
 use Rattle.std.specs.Prelude.{All}
 use Rattle.std.proofs.lemmas.List.{with_items_is}
 use Rattle.std.proofs.lemmas.Result.{IfOk-weaker}
@@ -7,8 +7,10 @@ use Rattle.desk_core.specs.Stands.{last_of, manager_of}
 use Rattle.esdk_batch.specs.declared.progress.Progress.TheVariants.{Waiting}
 use Rattle.esdk_batch.specs.Rounds.{Beginning, all_waits}
 use Rattle.esdk_batch.specs.Failures.{Tally, tally_of}
+use Rattle.esdk_batch.specs.ShelfCalls.{announced}
 use Rattle.esdk_batch.specs.Watching.{IsFrom, as_shown, as_told, files_by}
 use Rattle.esdk_batch.proofs.AllCounting.{counted_all, counted_none}
+use Rattle.esdk_batch.proofs.Announced.{only_behind, still_told, told_as, told_front, told_longer, told_only}
 use Rattle.esdk_batch.proofs.Beginnings.{count_waits, stand_begins}
 use Rattle.esdk_batch.proofs.Beside.{rest_ended}
 use Rattle.esdk_batch.proofs.Conclusion.{batch_ends_at, begun_as, counted_as, on_ok, shown_batch}
@@ -26,6 +28,8 @@ run_rounds-requires-clause-room g c =
 
 pub returns-clause-runs : goal.returns-clause-runs
 returns-clause-runs g c = λ v stands.
+    let told : g.F.Shelf.state c.announce.new.shelf ≡ announced c.args.jobs.now.jobs (g.F.Shelf.state c.args.shelf.now) =
+    told_as _ c.args.jobs.now.jobs _ _ c.jobs.ensures.jobs c.in_ok-announce.ensures.all in
     let shelf = g.F.Shelf.state c.announce.new.shelf in
     let old = c.deref_mut.result.now in
     let new = c.run_rounds.new.progress in
@@ -41,7 +45,7 @@ returns-clause-runs g c = λ v stands.
     let again : c.jobs-3.result.now ≡ c.args.jobs.now.jobs = c.jobs-3.ensures.jobs in
     let items = with_items_is made new (omega (arith, kept, as_made, made.ok.0)) in
     IfOk-weaker c.report_of.result _ _
-    (λ lines ended. begun_as _ c.args.jobs.now v.last as_told _ shelf _ _ _ _ _ lines c.announce.ensures
+    (λ lines ended. begun_as _ c.args.jobs.now v.last as_told (announced c.args.jobs.now.jobs (g.F.Shelf.state c.args.shelf.now)) shelf _ _ _ _ _ lines told
     (batch_ends_at _ c.args.jobs.now v w shelf.files _ _ _ _ _ lines c.jobs-3.result.now c.width.result new again c.width.ensures.width (sym items ∙ ended)
     (omega (arith, kept, as_made, count, ap length jobs, ap length again))
     stands.journal then.journal stand)) c.report_of.ensures
@@ -49,13 +53,16 @@ returns-clause-runs g c = λ v stands.
 pub returns-clause-shown : goal.returns-clause-shown
 returns-clause-shown g c = λ before v stands.
     let by = as_shown (length (g.F.Shelf.state c.args.shelf.now).calls) before in
-    let from : length (g.F.Shelf.state c.args.shelf.now).calls ≤ length (g.F.Shelf.state c.args.shelf.now).calls = omega arith in
+    let from : length (g.F.Shelf.state c.args.shelf.now).calls ≤ length (announced c.args.jobs.now.jobs (g.F.Shelf.state c.args.shelf.now)).calls =
+    told_longer c.args.jobs.now.jobs (g.F.Shelf.state c.args.shelf.now) in
+    let told : g.F.Shelf.state c.announce.new.shelf ≡ announced c.args.jobs.now.jobs (g.F.Shelf.state c.args.shelf.now) =
+    told_as _ c.args.jobs.now.jobs _ _ c.jobs.ensures.jobs c.in_ok-announce.ensures.all in
     let shelf = g.F.Shelf.state c.announce.new.shelf in
     let old = c.deref_mut.result.now in
     let new = c.run_rounds.new.progress in
     let wait = subst (All (λ one. one ≡ Waiting)) (sym c.deref_mut.ensures.value) c.in_ok-progress.ensures.waiting in
     let began : Beginning = record { live = v.live; files = files_by by shelf; entropy = g.W.Entropy.state c.args.entropy.now; journal = v.journal; last = v.last } in
-    let (w, then, stand) = c.in_ok-run_rounds.ensures.stand by (manager_of c.args.desk.now) (manager_of c.run_rounds.new.desk) began v (subst (IsFrom by) (sym c.announce.ensures) from) (admits_between _ _) stands
+    let (w, then, stand) = c.in_ok-run_rounds.ensures.stand by (manager_of c.args.desk.now) (manager_of c.run_rounds.new.desk) began v (subst (IsFrom by) (sym told) from) (admits_between _ _) stands
     (stand_begins _ c.jobs-3.result.now c.width.result began.files began.entropy v old wait) in
     let made = c.in_ok-progress.progress in
     let kept : length new ≡ length old = c.run_rounds.auto.progress in
@@ -66,7 +73,7 @@ returns-clause-shown g c = λ before v stands.
     let items = with_items_is made new (omega (arith, kept, as_made, made.ok.0)) in
     IfOk-weaker c.report_of.result _ _
     (λ lines ended. shown_batch _ c.args.jobs.now v.last before (g.F.Shelf.state c.args.shelf.now) (g.F.Shelf.state c.run_rounds.new.shelf) _ _ _ _ lines
-    (begun_as _ c.args.jobs.now v.last by _ shelf _ _ _ _ _ lines c.announce.ensures
+    (begun_as _ c.args.jobs.now v.last by (announced c.args.jobs.now.jobs (g.F.Shelf.state c.args.shelf.now)) shelf _ _ _ _ _ lines told
     (batch_ends_at _ c.args.jobs.now v w (files_by by shelf) _ _ _ _ _ lines c.jobs-3.result.now c.width.result new again c.width.ensures.width (sym items ∙ ended)
     (omega (arith, kept, as_made, count, ap length jobs, ap length again))
     stands.journal then.journal stand))) c.report_of.ensures
@@ -92,7 +99,8 @@ returns-clause-failures g c =
     let items = with_items_is made new (omega (arith, kept, as_made, made.ok.0)) in
     let began : Tally = tally_of (g.F.Shelf.state c.announce.new.shelf) (g.W.Entropy.state c.args.entropy.now).faults (g.M.Manager.state (manager_of c.args.desk.now)).meaning.faults in
     let all = c.in_ok-run_rounds.ensures.counts began (counted_none c.jobs-3.result.now began old wait) in
-    IfOk-weaker c.report_of.result _ _ (λ lines ended. counted_as c.args.jobs.now.jobs _ _ _ (g.F.Shelf.state c.announce.new.shelf) _ lines c.announce.ensures
+    IfOk-weaker c.report_of.result _ _ (λ lines ended. counted_as c.args.jobs.now.jobs _ _ (announced c.args.jobs.now.jobs (g.F.Shelf.state c.args.shelf.now)) (g.F.Shelf.state c.announce.new.shelf) _ lines
+    (told_as _ c.args.jobs.now.jobs _ _ c.jobs.ensures.jobs c.in_ok-announce.ensures.all)
     (counted_all c.jobs-3.result.now c.args.jobs.now.jobs began _ new lines c.jobs-3.ensures.jobs (sym items ∙ ended) all)) c.report_of.ensures
 
 -- ---- the sessions that were live before, and the numbers
@@ -153,8 +161,10 @@ returns-clause-finished g c =
     let again : c.jobs-3.result.now ≡ c.args.jobs.now.jobs = c.jobs-3.ensures.jobs in
     let items = with_items_is made new (omega (arith, kept, as_made, made.ok.0)) in
     let began = g.F.Shelf.state c.announce.new.shelf in
+    let told : g.F.Shelf.state c.announce.new.shelf ≡ announced c.args.jobs.now.jobs (g.F.Shelf.state c.args.shelf.now) =
+    told_as _ c.args.jobs.now.jobs _ _ c.jobs.ensures.jobs c.in_ok-announce.ensures.all in
     IfOk-weaker c.report_of.result _ _
-    (λ lines ended. jobs_finished c.jobs-3.result.now c.args.jobs.now.jobs _ began _ new lines again c.announce.ensures (omega (arith, kept, as_made, count, ap length jobs, ap length again))
+    (λ lines ended. jobs_finished c.jobs-3.result.now c.args.jobs.now.jobs (announced c.args.jobs.now.jobs (g.F.Shelf.state c.args.shelf.now)) began _ new lines again told (omega (arith, kept, as_made, count, ap length jobs, ap length again))
     (c.in_ok-run_rounds.ensures.calls began (jobs_none c.jobs-3.result.now began old wait)) (sym items ∙ ended)) c.report_of.ensures
 
 pub returns-clause-calls : goal.returns-clause-calls
@@ -168,21 +178,57 @@ returns-clause-calls g c =
     let jobs : c.jobs-2.result.now ≡ c.args.jobs.now.jobs = c.jobs-2.ensures.jobs in
     let again : c.jobs-3.result.now ≡ c.args.jobs.now.jobs = c.jobs-3.ensures.jobs in
     let began = g.F.Shelf.state c.announce.new.shelf in
-    most_since c.jobs-3.result.now c.args.jobs.now.jobs _ began _ again c.announce.ensures
-    (jobs_at_most c.jobs-3.result.now began _ new (omega (arith, kept, as_made, count, ap length jobs, ap length again)) (c.in_ok-run_rounds.ensures.calls began (jobs_none c.jobs-3.result.now began old wait)))
+    let told : g.F.Shelf.state c.announce.new.shelf ≡ announced c.args.jobs.now.jobs (g.F.Shelf.state c.args.shelf.now) =
+    told_as _ c.args.jobs.now.jobs _ _ c.jobs.ensures.jobs c.in_ok-announce.ensures.all in
+    inr (most_since c.jobs-3.result.now c.args.jobs.now.jobs (announced c.args.jobs.now.jobs (g.F.Shelf.state c.args.shelf.now)) began _ again told
+    (jobs_at_most c.jobs-3.result.now began _ new (omega (arith, kept, as_made, count, ap length jobs, ap length again)) (c.in_ok-run_rounds.ensures.calls began (jobs_none c.jobs-3.result.now began old wait))))
 
 pub returns-in_err-run_rounds-clause-calls : goal.returns-in_err-run_rounds-clause-calls
 returns-in_err-run_rounds-clause-calls g c =
     let wait = subst (All (λ one. one ≡ Waiting)) (sym c.deref_mut.ensures.value) c.in_ok-progress.ensures.waiting in
     let began = g.F.Shelf.state c.announce.new.shelf in
-    most_since c.jobs-3.result.now c.args.jobs.now.jobs _ began _ c.jobs-3.ensures.jobs c.announce.ensures
-    (c.in_err-run_rounds.ensures.broken began (jobs_none c.jobs-3.result.now began c.deref_mut.result.now wait))
+    let told : g.F.Shelf.state c.announce.new.shelf ≡ announced c.args.jobs.now.jobs (g.F.Shelf.state c.args.shelf.now) =
+    told_as _ c.args.jobs.now.jobs _ _ c.jobs.ensures.jobs c.in_ok-announce.ensures.all in
+    inr (most_since c.jobs-3.result.now c.args.jobs.now.jobs (announced c.args.jobs.now.jobs (g.F.Shelf.state c.args.shelf.now)) began _ c.jobs-3.ensures.jobs told
+    (c.in_err-run_rounds.ensures.broken began (jobs_none c.jobs-3.result.now began c.deref_mut.result.now wait)))
 
 pub returns-in_err-announce-clause-calls : goal.returns-in_err-announce-clause-calls
-returns-in_err-announce-clause-calls g c = most_never c.args.jobs.now.jobs _ _ c.announce.ensures
+returns-in_err-announce-clause-calls g c = told_front _ c.args.jobs.now.jobs _ _ c.jobs.ensures.jobs c.announce.ensures.some
 
 pub returns-in_err-buffer-clause-calls : goal.returns-in_err-buffer-clause-calls
-returns-in_err-buffer-clause-calls g c = most_never c.args.jobs.now.jobs _ _ c.announce.ensures
+returns-in_err-buffer-clause-calls g c = inr (most_never c.args.jobs.now.jobs _ _ (told_as _ c.args.jobs.now.jobs _ _ c.jobs.ensures.jobs c.in_ok-announce.ensures.all))
 
 pub returns-in_err-progress-clause-calls : goal.returns-in_err-progress-clause-calls
-returns-in_err-progress-clause-calls g c = most_never c.args.jobs.now.jobs _ _ c.announce.ensures
+returns-in_err-progress-clause-calls g c = inr (most_never c.args.jobs.now.jobs _ _ (told_as _ c.args.jobs.now.jobs _ _ c.jobs.ensures.jobs c.in_ok-announce.ensures.all))
+
+-- ---- the files
+
+pub returns-clause-others : goal.returns-clause-others
+returns-clause-others g c = only_behind _ c.args.jobs.now.jobs _ _ (g.F.Shelf.state c.announce.new.shelf) (g.F.Shelf.state c.run_rounds.new.shelf) c.jobs-3.ensures.jobs c.in_ok-announce.ensures.all c.run_rounds.ensures.others
+
+pub returns-clause-told : goal.returns-clause-told
+returns-clause-told g c = c.run_rounds.ensures.told ∙ still_told _ _ _ c.in_ok-announce.ensures.all
+
+pub returns-in_err-run_rounds-clause-others : goal.returns-in_err-run_rounds-clause-others
+returns-in_err-run_rounds-clause-others g c = only_behind _ c.args.jobs.now.jobs _ _ (g.F.Shelf.state c.announce.new.shelf) (g.F.Shelf.state c.run_rounds.new.shelf) c.jobs-3.ensures.jobs c.in_ok-announce.ensures.all c.run_rounds.ensures.others
+
+pub returns-in_err-run_rounds-clause-told : goal.returns-in_err-run_rounds-clause-told
+returns-in_err-run_rounds-clause-told g c = c.run_rounds.ensures.told ∙ still_told _ _ _ c.in_ok-announce.ensures.all
+
+pub returns-in_err-announce-clause-others : goal.returns-in_err-announce-clause-others
+returns-in_err-announce-clause-others g c = told_only c.args.jobs.now.jobs _ _ _ c.announce.ensures.some.1
+
+pub returns-in_err-announce-clause-told : goal.returns-in_err-announce-clause-told
+returns-in_err-announce-clause-told g c = still_told _ _ _ c.announce.ensures.some.1
+
+pub returns-in_err-buffer-clause-others : goal.returns-in_err-buffer-clause-others
+returns-in_err-buffer-clause-others g c = told_only c.args.jobs.now.jobs _ _ _ c.in_ok-announce.ensures.all
+
+pub returns-in_err-buffer-clause-told : goal.returns-in_err-buffer-clause-told
+returns-in_err-buffer-clause-told g c = still_told _ _ _ c.in_ok-announce.ensures.all
+
+pub returns-in_err-progress-clause-others : goal.returns-in_err-progress-clause-others
+returns-in_err-progress-clause-others g c = told_only c.args.jobs.now.jobs _ _ _ c.in_ok-announce.ensures.all
+
+pub returns-in_err-progress-clause-told : goal.returns-in_err-progress-clause-told
+returns-in_err-progress-clause-told g c = still_told _ _ _ c.in_ok-announce.ensures.all

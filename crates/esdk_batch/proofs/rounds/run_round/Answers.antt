@@ -1,5 +1,5 @@
 -- The job at the index has a turn, or it ended before.
-use Rattle.std.proofs.Common.{◌<◌, ◌≤◌, length, get_or, set, refl, sym, ap, ◌∙◌, inl, inr, arith, length-set}
+use Rattle.std.proofs.Common.{◌<◌, ◌≤◌, length, get_or, refl, sym, ap, ◌∙◌, inl, inr, arith}
 use Rattle.std.proofs.lemmas.List.{get_or_default}
 use Rattle.desk_core.specs.Stands.{last_of}
 use Rattle.esdk_batch.specs.FileEndLaws.{from_later}

@@ -3,7 +3,7 @@ use Rattle.std.specs.declared.option.Option.{Option}
 use Rattle.cmm_caching.specs.Asked.{store_limits}
 use Rattle.cmm_caching.specs.Store.{Store}
 use Rattle.desk_core.specs.Desk.{empty_desk}
-use Rattle.esdk_batch.proofs.ShelfCalls.{most_never}
+use Rattle.esdk_batch.proofs.Announced.{told_never}
 use Rattle.esdk_run.proofs.Ages.{serves_in_time}
 use Rattle.esdk_run.proofs.Serving.{Begins, counts_over, outlasts_over, runs_over, steady_cached}
 use Rattle.esdk_run.proofs.batch.run_over.Goals as goal
@@ -56,4 +56,4 @@ returns-clause-failures g c =
     c.new-desk.ensures.manager c.in_ok-manager.ensures.inner c.new.ensures (c.into_ring.ensures ∙ c.into_inner.ensures ∙ (λ i. (c.into_manager.ensures i).0)) c.run_batch-ended.ensures.failures
 
 pub returns-in_err-manager-clause-calls : goal.returns-in_err-manager-clause-calls
-returns-in_err-manager-clause-calls g c = most_never c.args.jobs.now.jobs _ _ refl
+returns-in_err-manager-clause-calls g c = told_never c.args.jobs.now.jobs _ _ refl
