@@ -39,7 +39,7 @@ from messages import (
     sealed_frame,
     units,
 )
-from objects import Clock, Entropy, Failed, Shelf, Sink, Source
+from objects import Clock, Entropy, Failed, Gathered, Shelf, Sink, Source
 from words import read_words
 
 MOST_FILE = 1_048_576
@@ -240,8 +240,11 @@ class Run:
         drawn = self.draw(self.tree)
         refuse_request(context, required, self.tree)
         armour = Armour(self.put)
-        put = armour.put if asked.is_armoured() else self.put
-        self.seal(asked.numbers, self.tree, drawn, (context, required), self.read, put)
+        gathered = Gathered(armour.put if asked.is_armoured() else self.put)
+        try:
+            self.seal(asked.numbers, self.tree, drawn, (context, required), gathered.before(self.read), gathered.put)
+        finally:
+            gathered.hand_on()
         armour.finish()
         return DONE
 
@@ -263,12 +266,16 @@ class Run:
     # decrypt
 
     def decrypt(self, asked, given, required):
-        """Writes the content of each unit once it is whole."""
-        left = Bytes(more=self.reader(asked))
+        """Writes the content of each unit once it is whole, before more is read."""
+        gathered = Gathered(self.put)
+        left = Bytes(more=gathered.before(self.reader(asked)))
         header, data_key = self.unlocked_front(left, asked.limits(), given, required)
-        for unit in units(left, header, data_key, asked.limits().max_unit):
-            if unit:
-                self.put(unit)
+        try:
+            for unit in units(left, header, data_key, asked.limits().max_unit):
+                if unit:
+                    gathered.put(unit)
+        finally:
+            gathered.hand_on()
         return self.put_context()
 
     # reseal

@@ -47,6 +47,39 @@ class Sink(Planned):
         self.written += bytes_
 
 
+class Gathered:
+    """Holds what is put until no more has room, or it is handed on: then all of it goes on by one put. What is long goes on
+    by itself."""
+
+    ROOM, LONG = 69_632, 65_536
+
+    def __init__(self, put):
+        self.put_on = put
+        self.held = b""
+
+    def put(self, bytes_):
+        if len(bytes_) >= self.LONG or len(self.held) + len(bytes_) > self.ROOM:
+            self.hand_on()
+        if len(bytes_) >= self.LONG:
+            self.put_on(bytes_)
+        else:
+            self.held += bytes_
+
+    def hand_on(self):
+        held, self.held = self.held, b""
+        if held:
+            self.put_on(held)
+
+    def before(self, read):
+        """The same read, with nothing held when it begins."""
+
+        def handing_on():
+            self.hand_on()
+            return read()
+
+        return handing_on
+
+
 class Shelf(Planned):
     """Files by their names. A name has room for what it held at first, and for as much as is said."""
 

@@ -1,5 +1,5 @@
 -- Why a decryption ends while a piece is fed.
-use Rattle.std.proofs.Common.{◌≡◌, ℕ, true, false, ◌≤◌, List, [], ◌++◌, length, take, drop, Option, Some, None, Err, refl, sym, ap, subst, ◌∙◌, inl, arith, append_assoc}
+use Rattle.std.proofs.Common.{◌≡◌, ℕ, true, false, ◌≤◌, List, [], ◌++◌, length, take, drop, Option, Some, None, Err, refl, sym, ap, subst, ◌∙◌, inl, inr, arith, append_assoc}
 use Rattle.std.specs.Prelude.{IfSome, option_map}
 use Rattle.std.specs.Io.KnownBytes.{Appends}
 use Rattle.std.proofs.KnownBytes.{Appends-trans}
@@ -10,6 +10,7 @@ use Rattle.esdk_fields.specs.Place.{start}
 use Rattle.esdk_fields.specs.Reading.{Reading, Read, Refused, Wanting, reading_fault as fault_in, value_of}
 use Rattle.esdk_base.specs.declared.receiver.FeedError.{FeedError}
 use Rattle.esdk_base.specs.declared.receiver.FeedError.TheVariants as feeds
+use Rattle.esdk_base.specs.declared.source.Failed.{Failed as PutFailed}
 use Rattle.esdk_base.specs.Streams.{SinkState, SourceState}
 use Rattle.esdk_base.specs.Receiver.{PutsAll}
 use Rattle.context_codec.specs.Context.{KeyValue}
@@ -25,7 +26,7 @@ use Rattle.stream_open.specs.declared.errors.OpenError.TheVariants as opens
 use Rattle.stream_open.specs.declared.session.Opener.{Opener}
 use Rattle.stream_open.specs.Asking.{Heard, Failed, IsHeard, served_in}
 use Rattle.stream_open.specs.Feeding.{GoesOn, KeepsAnswer, header_in, judged_all}
-use Rattle.stream_open.specs.Receiving.{FedShort, FedTo, FedUntil, FedWhole, FeedsOpenerPiece}
+use Rattle.stream_open.specs.Receiving.{FedShort, FedTo, FedUntil, FedWhole}
 use Rattle.stream_open.specs.Session.{MayRunOut, OpeningValue, answer_kept, asked_header, is_framed, judged_now, keeping, new_opening_session}
 use Rattle.stream_open.proofs.FedPieces.{Joins, joins, keeps_some}
 use Rattle.stream_open.proofs.Feeding.{asks_about, kept_answer, may_hear, opened_goes, runs_out_before}
@@ -38,7 +39,7 @@ use Rattle.whole_input.proofs.Fronts.{beyond_after}
 use Rattle.esdk_decrypt.specs.declared.errors.DecryptError.{DecryptError}
 use Rattle.esdk_decrypt.specs.declared.errors.DecryptError.TheVariants as errors
 use Rattle.esdk_decrypt.specs.Decrypt.{AnswersTo, DecryptAsked, DecryptEnds, answering_of, asked_from, fault_of}
-use Rattle.esdk_decrypt.specs.Underway.{BearsOnce, OpenErrorIsCalled, IsFeedCalled, PutsFront}
+use Rattle.esdk_decrypt.specs.Underway.{BearsOnce, FailsAtSome, FeedsPiece, OpenErrorIsCalled, IsFeedCalled, PutsFront}
 use Rattle.esdk_decrypt.proofs.Answering.{Answered, answered_kept, any_unread, fails_whole, front_released, judged_before, nothing_unread, sound_before, still_wanting}
 
 -- ---- the header of faulty bytes
@@ -112,22 +113,22 @@ module _ {M O : Type 0} (state : M → ManagerNow) (sink : O → SinkState) (now
 
   -- ---- the session ended in the piece
 
-  joined : (error : OpenError) (short : FedShort state (PutsAll sink) now w piece error mid new during after next)
+  joined : (takes : O → O → List ℕ → Type 0) (error : OpenError) (short : FedShort state takes now w piece error mid new during after next)
       → Joins state now v (bytes ++ piece) (error ≡ opens.Memory) first new w short.heard (asked_header w piece)
-  joined error short = joins state now v bytes piece whole.given first mid new opener whole.fed (error ≡ opens.Memory) short.heard short.hears short.bears short.unasked
+  joined takes error short = joins state now v bytes piece whole.given first mid new opener whole.fed (error ≡ opens.Memory) short.heard short.hears short.bears short.unasked
 
   gained_all : (more : List ℕ) (c : List ℕ) → Appends (sink during).written (sink after).written more → c ≡ whole.given ++ more → Appends (sink begun).written (sink after).written c
   gained_all more c gained is =
       subst (λ (x : List ℕ). Appends (sink begun).written (sink after).written x) (sym is)
       (Appends-trans (sink begun).written (sink during).written (sink after).written whole.given more whole.taken.gained gained)
 
-  keeps_fault : (fault : Fault) (short : FedShort state (PutsAll sink) now w piece (opens.Fault fault) mid new during after next)
+  keeps_fault : (takes : O → O → List ℕ → Type 0) (fault : Fault) (short : FedShort state takes now w piece (opens.Fault fault) mid new during after next)
       (j : Joins state now v (bytes ++ piece) (opens.Fault fault ≡ opens.Memory) first new w short.heard (asked_header w piece))
       (kept : Option Unlocking) → (keeping v j.heard).answer ≡ kept
       → KeepsAnswer (said_last (state first) (state new)) now given (header_in settings (bytes ++ piece)) kept
-  keeps_fault fault short j (Some a) is =
+  keeps_fault takes fault short j (Some a) is =
       keeps_some (said_last (state first) (state new)) now v (bytes ++ piece) (opens.Fault fault ≡ opens.Memory) j.heard a (opened_goes settings given) refl j.hears is
-  keeps_fault fault short j None is =
+  keeps_fault takes fault short j None is =
       let found : header_fault w.settings (w.taken ++ piece) ≡ Some fault = short.why.unheard (j.answer ∙ is) in
       let here : header_fault settings (bytes ++ piece) ≡ Some fault =
       ap (λ (b : List ℕ). header_fault settings (b ++ piece)) (sym whole.fed.feeds.taken) ∙ ap (λ (s : Settings). header_fault s (w.taken ++ piece)) (sym whole.fed.feeds.settings) ∙ found in
@@ -137,10 +138,10 @@ module _ {M O : Type 0} (state : M → ManagerNow) (sink : O → SinkState) (now
       → DecryptEnds asked input taken (sink begun) (sink after) (after ≡ begun) (errors.Fault fault)
   faulty_ends fault short =
       let all : List ℕ = bytes ++ piece in
-      let j = joined (opens.Fault fault) short in
+      let j = joined (PutsAll sink) (opens.Fault fault) short in
       let kept : Option Unlocking = (keeping v j.heard).answer in
       let a : Answered (answering_of (state first) (state new) now) settings given all (judged all settings (answer_kept kept)) kept =
-      answered_kept (said_last (state first) (state new)) now settings given all kept (keeps_fault fault short j kept refl) in
+      answered_kept (said_last (state first) (state new)) now settings given all kept (keeps_fault (PutsAll sink) fault short j kept refl) in
       let same : judged_all w piece short.heard ≡ judged all settings (answer_kept kept) =
       same_piece state now v bytes whole.given first mid new opener next piece whole.fed short.heard (opens.Fault fault ≡ opens.Memory) j in
       record {
@@ -170,7 +171,7 @@ module _ {M O : Type 0} (state : M → ManagerNow) (sink : O → SinkState) (now
   failed_ends : FedShort state (PutsAll sink) now w piece opens.KeyringFault mid new during after next
       → DecryptEnds asked input taken (sink begun) (sink after) (after ≡ begun) (errors.Outside outsides.KeyringFault)
   failed_ends short =
-      let j = joined opens.KeyringFault short in
+      let j = joined (PutsAll sink) opens.KeyringFault short in
       let (h, asks, none) = at_failed (opens.KeyringFault ≡ opens.Memory) short.heard mid new w piece short.why.0 short.hears in
       let (g, asked_all, failed) = at_failed (opens.KeyringFault ≡ opens.Memory) j.heard first new v (bytes ++ piece) (j.late h asks ∙ short.why.0) j.hears in
       let here = asks_about w piece h whole.fed.feeds.goes asks in
@@ -199,7 +200,7 @@ module _ {M O : Type 0} (state : M → ManagerNow) (sink : O → SinkState) (now
   lacks_some short b h None all is unheard e =
       absurd (some_none h (sym e ∙ ap (λ (o : Option HeaderFields). option_map (header_of b) o) (unheard refl)))
   lacks_some short b h (Some a) all is unheard e =
-      let j = joined opens.Memory short in
+      let j = joined (PutsAll sink) opens.Memory short in
       let later : header_in settings (bytes ++ piece) ≡ Some h =
       ap (λ (l : List ℕ). header_in settings l) (sym all) ∙ header_on settings b (drop short.count piece) h (header settings (start b)) refl e in
       subst (λ (o : Option HeaderValue). KeepsAnswer (said_last (state first) (state new)) now given o (Some a)) later
@@ -302,54 +303,103 @@ module _ {M O : Type 0} (state : M → ManagerNow) (sink : O → SinkState) (now
         omega (arith, until.failed.rose, whole.taken.faults),
       )
 
+  -- the opener had found a fault before, and the output failed at what that left to be handed on
+  late_fault : (fault : Fault) → FedShort state (FailsAtSome sink) now w piece (opens.Fault fault) mid new during after next
+      → DecryptEnds asked input taken (sink begun) (sink after) (after ≡ begun) (errors.Outside outsides.SinkFault)
+  late_fault fault short =
+      let all : List ℕ = bytes ++ piece in
+      let j = joined (FailsAtSome sink) (opens.Fault fault) short in
+      let kept : Option Unlocking = (keeping v j.heard).answer in
+      let a : Answered (answering_of (state first) (state new) now) settings given all (judged all settings (answer_kept kept)) kept =
+      answered_kept (said_last (state first) (state new)) now settings given all kept (keeps_fault (FailsAtSome sink) fault short j kept refl) in
+      let same : judged_all w piece short.heard ≡ judged all settings (answer_kept kept) =
+      same_piece state now v bytes whole.given first mid new opener next piece whole.fed short.heard (opens.Fault fault ≡ opens.Memory) j in
+      let on : (x : Unlocking) → w.answer ≡ Some x → kept ≡ Some x = λ x is. sym j.answer ∙ kept_on short.heard (opens.Fault fault ≡ opens.Memory) short.hears x is in
+      let released : content (judged all settings a.answer) ≡ content (judged_now w) ++ short.given = ap content (a.same ∙ sym same) ∙ short.why.released in
+      let before : judged bytes settings a.answer ≡ judged_now w = judged_first a.answer kept on a.keeps in
+      let gained : Appends (sink begun).written (sink during).written (content (judged_now w)) =
+      subst (λ (c : List ℕ). Appends (sink begun).written (sink during).written c) (sym content_w) whole.taken.gained in
+      let beyond : WritesBeyond (sink begun) (sink after) (content (judged bytes settings a.answer)) (content (judged all settings a.answer)) =
+      subst (λ (c : List ℕ). WritesBeyond (sink begun) (sink after) (content (judged bytes settings a.answer)) c) (sym released)
+      (subst (λ (c : List ℕ). WritesBeyond (sink begun) (sink after) c (content (judged_now w) ++ short.given)) (sym (ap content before))
+      (beyond_after (sink begun) (sink during) (sink after) (content (judged_now w)) short.given short.taken.0 gained short.taken.1.front)) in (
+        record {
+          bytes = all;
+          answer = a.answer;
+          came = came;
+          faults = faults;
+          answered = a.answered;
+          last = record {
+            before = bytes;
+            piece = piece;
+            all = refl;
+            few = few;
+            was = record { sound = sound_first a.answer kept on a.keeps; written = beyond };
+          };
+        },
+        omega (arith, short.taken.1.rose, whole.taken.faults),
+      )
+
+  -- with any other error nothing was left to be handed on
+  late_ends : (stop : OpenError) → FedShort state (FailsAtSome sink) now w piece stop mid new during after next
+      → DecryptEnds asked input taken (sink begun) (sink after) (after ≡ begun) (errors.Outside outsides.SinkFault)
+  late_ends (opens.Fault fault) short = late_fault fault short
+  late_ends opens.KeyringFault short = absurd (omega (arith, short.taken.0, ap length short.why.1))
+  late_ends opens.Memory short = absurd (omega (arith, short.taken.0, ap length short.why.1))
+  late_ends opens.Stopped short = absurd short.why
+
   -- ---- whatever ended it
 
-  pub feed_ends : {E : Type 0} (error : FeedError OpenError E) (named : DecryptError)
-      → FeedsOpenerPiece {T = Unit {0}} state (PutsAll sink) (PutsFront sink) now w piece mid new during after next (Err error) → IsFeedCalled error named
+  pub feed_ends : (error : FeedError OpenError PutFailed) (named : DecryptError) → FeedsPiece state sink now w piece mid new during after next (Err error) → IsFeedCalled error named
       → DecryptEnds asked input taken (sink begun) (sink after) (after ≡ begun) named
-  feed_ends (feeds.Receiver error) named until is =
-      subst (λ (e : DecryptError). DecryptEnds asked input taken (sink begun) (sink after) (after ≡ begun) e) (sym is) (until_ends error until)
+  feed_ends (feeds.Receiver error) named stop is =
+      subst (λ (e : DecryptError). DecryptEnds asked input taken (sink begun) (sink after) (after ≡ begun) e) (sym is)
+      (elim stop [ inl until ↦ until_ends error until | inr late ↦ late_ends late.0 late.1 ])
   feed_ends (feeds.Machine opens.Stopped) named off is = absurd is
   feed_ends (feeds.Machine (opens.Fault fault)) named short is = short_ends (opens.Fault fault) named short is
   feed_ends (feeds.Machine opens.KeyringFault) named short is = short_ends opens.KeyringFault named short is
   feed_ends (feeds.Machine opens.Memory) named short is = short_ends opens.Memory named short is
 
-  short_bears : (error : OpenError) → FedShort state (PutsAll sink) now w piece error mid new during after next → BearsOnce (state first) (state new) now
-  short_bears error short = let j = joined error short in (served_in j.heard, j.bears)
+  short_bears : (takes : O → O → List ℕ → Type 0) (error : OpenError) → FedShort state takes now w piece error mid new during after next → BearsOnce (state first) (state new) now
+  short_bears takes error short = let j = joined takes error short in (served_in j.heard, j.bears)
 
-  pub feed_bears : {E : Type 0} (error : FeedError OpenError E)
-      → FeedsOpenerPiece {T = Unit {0}} state (PutsAll sink) (PutsFront sink) now w piece mid new during after next (Err error) → BearsOnce (state first) (state new) now
-  feed_bears (feeds.Receiver error) until =
+  until_bears : (error : PutFailed) → FedUntil state (PutsFront sink) now w piece error mid new during after next → BearsOnce (state first) (state new) now
+  until_bears error until =
       let j = joins state now v bytes (take until.count piece) whole.given first mid new opener whole.fed ⊥ until.fed.heard until.fed.hears until.fed.bears until.fed.unasked in
       (served_in j.heard, j.bears)
+
+  pub feed_bears : (error : FeedError OpenError PutFailed) → FeedsPiece state sink now w piece mid new during after next (Err error) → BearsOnce (state first) (state new) now
+  feed_bears (feeds.Receiver error) stop = elim stop [ inl until ↦ until_bears error until | inr late ↦ short_bears (FailsAtSome sink) late.0 late.1 ]
   feed_bears (feeds.Machine opens.Stopped) off = absurd (let no : true ≡ false = sym off.off ∙ whole.fed.feeds.goes.going in cc)
-  feed_bears (feeds.Machine (opens.Fault fault)) short = short_bears (opens.Fault fault) short
-  feed_bears (feeds.Machine opens.KeyringFault) short = short_bears opens.KeyringFault short
-  feed_bears (feeds.Machine opens.Memory) short = short_bears opens.Memory short
+  feed_bears (feeds.Machine (opens.Fault fault)) short = short_bears (PutsAll sink) (opens.Fault fault) short
+  feed_bears (feeds.Machine opens.KeyringFault) short = short_bears (PutsAll sink) opens.KeyringFault short
+  feed_bears (feeds.Machine opens.Memory) short = short_bears (PutsAll sink) opens.Memory short
 
   -- ---- no header is whole in what came
 
-  short_unasked : (error : OpenError) → FedShort state (PutsAll sink) now w piece error mid new during after next → head settings (bytes ++ piece) ≡ None → new ≡ first
-  short_unasked error short none = (joined error short).unasked (none_asked settings given (bytes ++ piece) none)
+  short_unasked : (takes : O → O → List ℕ → Type 0) (error : OpenError) → FedShort state takes now w piece error mid new during after next → head settings (bytes ++ piece) ≡ None → new ≡ first
+  short_unasked takes error short none = (joined takes error short).unasked (none_asked settings given (bytes ++ piece) none)
 
-  pub feed_unasked : {E : Type 0} (error : FeedError OpenError E)
-      → FeedsOpenerPiece {T = Unit {0}} state (PutsAll sink) (PutsFront sink) now w piece mid new during after next (Err error) → head settings (bytes ++ piece) ≡ None → new ≡ first
-  feed_unasked (feeds.Receiver error) until none =
+  until_unasked : (error : PutFailed) → FedUntil state (PutsFront sink) now w piece error mid new during after next → head settings (bytes ++ piece) ≡ None → new ≡ first
+  until_unasked error until none =
       let j = joins state now v bytes (take until.count piece) whole.given first mid new opener whole.fed ⊥ until.fed.heard until.fed.hears until.fed.bears until.fed.unasked in
       let b : List ℕ = bytes ++ take until.count piece in
       let all : b ++ drop until.count piece ≡ bytes ++ piece =
       append_assoc bytes (take until.count piece) (drop until.count piece) ∙ ap (λ (l : List ℕ). bytes ++ l) (take-append-drop until.count piece) in
       j.unasked (none_asked settings given b (headless_before settings b (drop until.count piece) (head settings b) refl (ap (λ (l : List ℕ). head settings l) all ∙ none)))
+
+  pub feed_unasked : (error : FeedError OpenError PutFailed) → FeedsPiece state sink now w piece mid new during after next (Err error) → head settings (bytes ++ piece) ≡ None → new ≡ first
+  feed_unasked (feeds.Receiver error) stop none = elim stop [ inl until ↦ until_unasked error until none | inr late ↦ short_unasked (FailsAtSome sink) late.0 late.1 none ]
   feed_unasked (feeds.Machine opens.Stopped) off none = absurd (let no : true ≡ false = sym off.off ∙ whole.fed.feeds.goes.going in cc)
-  feed_unasked (feeds.Machine (opens.Fault fault)) short none = short_unasked (opens.Fault fault) short none
-  feed_unasked (feeds.Machine opens.KeyringFault) short none = short_unasked opens.KeyringFault short none
-  feed_unasked (feeds.Machine opens.Memory) short none = short_unasked opens.Memory short none
+  feed_unasked (feeds.Machine (opens.Fault fault)) short none = short_unasked (PutsAll sink) (opens.Fault fault) short none
+  feed_unasked (feeds.Machine opens.KeyringFault) short none = short_unasked (PutsAll sink) opens.KeyringFault short none
+  feed_unasked (feeds.Machine opens.Memory) short none = short_unasked (PutsAll sink) opens.Memory short none
 
 -- a session that is fed isn't stopped
-pub never_off : {M O E : Type 0} (state : M → ManagerNow) (takes : O → O → List ℕ → Type 0) (fails : O → O → List ℕ → E → Type 0) (now : ℕ) (w : OpeningValue) (piece : List ℕ) (mid new : M) (during after : O) (next : Opener)
-    (error : FeedError OpenError E) → GoesOn w → FeedsOpenerPiece {T = Unit {0}} state takes fails now w piece mid new during after next (Err error) → error ≡ feeds.Machine opens.Stopped → ⊥
-never_off state takes fails now w piece mid new during after next (feeds.Machine opens.Stopped) goes off is = let no : true ≡ false = sym off.off ∙ goes.going in cc
-never_off state takes fails now w piece mid new during after next (feeds.Machine (opens.Fault fault)) goes off is = cc
-never_off state takes fails now w piece mid new during after next (feeds.Machine opens.KeyringFault) goes off is = cc
-never_off state takes fails now w piece mid new during after next (feeds.Machine opens.Memory) goes off is = cc
-never_off state takes fails now w piece mid new during after next (feeds.Receiver error) goes off is = cc
+pub never_off : {M O : Type 0} (state : M → ManagerNow) (sink : O → SinkState) (now : ℕ) (w : OpeningValue) (piece : List ℕ) (mid new : M) (during after : O) (next : Opener)
+    (error : FeedError OpenError PutFailed) → GoesOn w → FeedsPiece state sink now w piece mid new during after next (Err error) → error ≡ feeds.Machine opens.Stopped → ⊥
+never_off state sink now w piece mid new during after next (feeds.Machine opens.Stopped) goes off is = let no : true ≡ false = sym off.off ∙ goes.going in cc
+never_off state sink now w piece mid new during after next (feeds.Machine (opens.Fault fault)) goes off is = cc
+never_off state sink now w piece mid new during after next (feeds.Machine opens.KeyringFault) goes off is = cc
+never_off state sink now w piece mid new during after next (feeds.Machine opens.Memory) goes off is = cc
+never_off state sink now w piece mid new during after next (feeds.Receiver error) goes off is = cc

@@ -1,5 +1,6 @@
 pub mod Answering
 pub mod Breaking
+pub mod GatheredContents
 pub mod Pieces
 pub mod Concluding
 pub mod Told

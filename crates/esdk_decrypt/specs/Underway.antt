@@ -1,6 +1,7 @@
 -- What is so while an input is decrypted: the opener was fed the bytes that came, and the output
 -- gained what they release.
-use Rattle.std.specs.Prelude.{◌≡◌, ℕ, List, Some, None, Option, ⊤, Result, Ok, Err}
+use Rattle.std.specs.Prelude.{◌≡◌, ◌⊎◌, ℕ, ◌≤◌, List, length, Some, None, Option, ⊤, Result, Ok}
+use Rattle.std.specs.Prelude.{Err}
 use Rattle.esdk_fields.specs.Counts.{Rose}
 use Rattle.esdk_fields.specs.declared.refusals.Outside.TheVariants as outsides
 use Rattle.esdk_base.specs.declared.receiver.FeedError.{FeedError}
@@ -19,7 +20,7 @@ use Rattle.stream_open.specs.declared.errors.OpenError.TheVariants as opens
 use Rattle.stream_open.specs.declared.session.Opener.{Opener}
 use Rattle.stream_open.specs.Asking.{BearsHeard}
 use Rattle.stream_open.specs.Feeding.{GoesOn}
-use Rattle.stream_open.specs.Receiving.{FedWhole, FeedsOpenerPiece}
+use Rattle.stream_open.specs.Receiving.{FedShort, FedUntil, FedWhole, FeedsOpenerPiece}
 use Rattle.stream_open.specs.Session.{OpeningValue, answer_kept, judged_now, new_opening_session}
 use Rattle.stream_open.specs.Stands.{Stands}
 use Rattle.whole_input.specs.declared.pieces.End.{End}
@@ -67,6 +68,31 @@ OpenErrorIsCalled opens.Memory error = error ≡ errors.Memory
 abbrev pub PutsFront : {O E : Type 0} → (O → SinkState) → O → O → List ℕ → E → Type 0
 PutsFront state old new bytes error = SinkFails (state old) (state new) bytes
 
+-- a put failed at these bytes, which are something
+abbrev pub FailsAtSome : {O : Type 0} → (O → SinkState) → O → O → List ℕ → Type 0
+FailsAtSome state old new bytes = (1 ≤ length bytes) × SinkFails (state old) (state new) bytes
+
+-- what feeding a piece to an opener answers, whose contents go to a sink
+abbrev pub FedInto : Type 0
+FedInto = Result (Unit {0}) (FeedError OpenError Failed)
+
+-- What feeding a piece to a session comes to, whose contents are gathered and handed on before more
+-- is read. It is what it comes to where the sink takes each of them; but where a put fails, the
+-- opener may have stopped before, with an error that isn't answered then.
+abbrev pub FeedsPiece : {M O : Type 0} → (M → ManagerNow) → (O → SinkState) → ℕ → OpeningValue
+    → List ℕ → M → M → O → O → Opener → FedInto → Type 0
+FeedsPiece state sink now v piece old new output put opener (Err (feeds.Receiver error)) =
+    FedUntil state (PutsFront sink) now v piece error old new output put opener
+    ⊎ ((stop : OpenError)
+    × FedShort state (FailsAtSome sink) now v piece stop old new output put opener)
+FeedsPiece state sink now v piece old new output put opener (Err (feeds.Machine error)) =
+    FeedsOpenerPiece {T = Unit {0}} state (PutsAll sink) (PutsFront {E = Failed} sink) now v piece
+    old new
+    output put
+    opener (Err (feeds.Machine error))
+FeedsPiece state sink now v piece old new output put opener (Ok done) =
+    FedWhole state (PutsAll sink) now v piece old new output put opener
+
 -- what an error of feeding is called
 abbrev pub IsFeedCalled : {E : Type 0} → FeedError OpenError E → DecryptError → Type 0
 IsFeedCalled (feeds.Machine error) named = OpenErrorIsCalled error named
@@ -79,9 +105,7 @@ FeedsAs state sink now v piece old new output put opener (Ok done) =
     FedWhole state (PutsAll sink) now v piece old new output put opener
 FeedsAs state sink now v piece old new output put opener (Err named) =
     (error : FeedError OpenError Failed)
-    × FeedsOpenerPiece {T = Unit {0}} state (PutsAll sink) (PutsFront sink) now v piece old new
-    output put
-    opener (Err error)
+    × FeedsPiece state sink now v piece old new output put opener (Err error)
     × IsFeedCalled error named
 
 -- ---- the end

@@ -1,6 +1,6 @@
 //! The decryption of an input.
 
-ghost use Rattle.std.specs.Prelude.{◌≡◌, ◌≢◌, ◌+◌, ◌≤◌, ◌^◌, List, IfOk, IfErr};
+ghost use Rattle.std.specs.Prelude.{◌≡◌, ◌≢◌, ◌+◌, ◌≤◌, ◌^◌, List, [], IfOk, IfErr, OnOk};
 ghost use Rattle.esdk_fields.specs.Counts.{Stayed};
 ghost use Rattle.header_codec.specs.declared.settings.Settings.{Settings};
 ghost use Rattle.keyring_trait.specs.Manager.{Went};
@@ -13,14 +13,15 @@ ghost use Rattle.stream_open.specs.Stands.{Stands};
 ghost use Rattle.esdk_decrypt.specs.Decrypt.{Decrypts, DecryptEnds, asked_from};
 ghost use Rattle.esdk_decrypt.specs.Told.{decrypting_by};
 ghost use Rattle.esdk_decrypt.specs.Underway.{BearsOnce, ConcludesDecryption, ConcludesWhole};
-ghost use Rattle.esdk_decrypt.specs.Underway.{FeedsAs};
+ghost use Rattle.esdk_decrypt.specs.Underway.{FeedsAs, FeedsPiece};
 ghost use Rattle.esdk_decrypt.specs.Underway.{OpenErrorIsCalled, IsFedWhole, IsFeedCalled};
 ghost use Rattle.esdk_decrypt.specs.Underway.{OpenerIsGoing, OpenerIsNew, IsUnasked};
 
 use crate::errors::DecryptError;
 use context_codec::Context;
-use esdk_base::{FeedError, Sink, Source};
+use esdk_base::{Failed, FeedError, Sink, Source};
 use esdk_fields::Outside;
+use gathered_output::{GatheredBytes, Gathering};
 use header_codec::Settings;
 use keyring_trait::Manager;
 use std::alloc::Global;
@@ -28,7 +29,8 @@ use stream_open::{OpenError, Opener};
 use whole_input::{End, Pieces};
 
 /// Reads the input piece by piece, and writes the contents of its frames, or of its one block, that
-/// open, each before more is read. The materials manager is asked for the data key at the moment
+/// open, before more is read: those that a piece releases by one call, where that is one content
+/// or no more than 69,632 bytes. The materials manager is asked for the data key at the moment
 /// `now`, in seconds, and is told the pairs that the caller gives beside those that the header
 /// stores.
 ///
@@ -49,7 +51,7 @@ use whole_input::{End, Pieces};
 /// - `Outside`: a read failed, or 2^62 bytes came and more may follow, and the bytes taken have no
 ///   fault; what they release was written. Or a keyring failed when the manager was asked: nothing
 ///   was written. Or the output failed: a front of what the bytes taken release was written, with
-///   all that those before the last piece release.
+///   all that those before the last piece release. A fault of the last piece isn't told then.
 /// - `Memory`: nothing was written. It doesn't come once a piece, of at most 65,536 bytes, was read
 ///   behind the unlocked header of a framed message.
 pub fn decrypt<M: Manager, S: Source, O: Sink>(
@@ -108,7 +110,7 @@ pub fn decrypt<M: Manager, S: Source, O: Sink>(
 }
 
 /// Feeds all pieces of the input to an opener that has taken nothing, and says why no more came.
-/// The buffer is taken before the first read.
+/// The buffer and the room for what a piece gives are taken before the first read.
 fn feed_input<M: Manager, S: Source, O: Sink>(
     alloc: Global,
     manager: &mut M,
@@ -136,33 +138,71 @@ fn feed_input<M: Manager, S: Source, O: Sink>(
     ensures lasts { S.lasts input.old input.new }
 {
     let mut pieces = Pieces::new(alloc)?;
+    let mut gathered = GatheredBytes::new(alloc)?;
     'reads: loop {
         if let Err(end) = pieces.next(input) {
             return Ok(end);
         }
-        if let Err(error) = feed_piece(alloc, manager, now, pieces.piece(), opener, output) {
+        let piece = pieces.piece();
+        if let Err(error) = feed_piece(alloc, manager, now, piece, opener, &mut gathered, output) {
             return Err(error);
         }
     }
 }
 
-/// Feeds a piece to an opener that goes on, to its end.
+/// Feeds a piece to an opener that goes on, to its end, and writes all that it gave.
 fn feed_piece<M: Manager, O: Sink>(
     alloc: Global,
     manager: &mut M,
     now: u64,
     piece: &[u8],
     opener: &mut Opener,
+    gathered: &mut GatheredBytes,
     output: &mut O,
 ) -> Result<(), DecryptError>
-    requires { OpenerIsGoing opener.old }
+    requires going { OpenerIsGoing opener.old }
+    requires empty { gathered.old ≡ [] }
     ensures fed { (v : OpeningValue) → Stands opener.old v → FeedsAs M.state O.state now v piece.now
         manager.old manager.new output.old output.new opener.new result }
+    ensures empty { OnOk result (gathered.new ≡ []) }
     ensures went { Went (M.state manager.old) (M.state manager.new) }
 {
-    match opener.feed(alloc, manager, now, piece, output) {
+    match feed(alloc, manager, now, piece, opener, gathered, output) {
         Ok(()) => Ok(()),
         Err(error) => Err(failure_of(error)),
+    }
+}
+
+/// Feeds a piece to an opener whose contents are gathered, and hands on all that it gave before it
+/// returns, also where the opener fails. Where the output fails at that, it answers the output's
+/// error, and not the opener's.
+fn feed<M: Manager, O: Sink>(
+    alloc: Global,
+    manager: &mut M,
+    now: u64,
+    piece: &[u8],
+    opener: &mut Opener,
+    gathered: &mut GatheredBytes,
+    output: &mut O,
+) -> Result<(), FeedError<OpenError, Failed>>
+    requires going { OpenerIsGoing opener.old }
+    requires empty { gathered.old ≡ [] }
+    ensures fed { (v : OpeningValue) → Stands opener.old v → FeedsPiece M.state O.state now v
+        piece.now manager.old manager.new output.old output.new opener.new result }
+    ensures empty { OnOk result (gathered.new ≡ []) }
+    ensures went { Went (M.state manager.old) (M.state manager.new) }
+{
+    let mut gathering = Gathering::new(output, gathered);
+    match opener.feed(alloc, manager, now, piece, &mut gathering) {
+        Ok(()) => match gathering.hand_on() {
+            Ok(done) => Ok(done),
+            Err(error) => Err(FeedError::Receiver(error)),
+        },
+        Err(FeedError::Machine(error)) => match gathering.hand_on() {
+            Ok(()) => Err(FeedError::Machine(error)),
+            Err(failed) => Err(FeedError::Receiver(failed)),
+        },
+        Err(FeedError::Receiver(error)) => Err(FeedError::Receiver(error)),
     }
 }
 

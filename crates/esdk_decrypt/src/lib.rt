@@ -1,9 +1,9 @@
 //! Decryption of an input with the materials of a manager.
 //!
 //! `decrypt` reads its input piece by piece, feeds each piece to an opener to its end, and writes
-//! each content as soon as it is released. It says why the input is no whole message, where it
-//! isn't one. It holds one unit and one piece. Standard: AWS Encryption SDK Specification,
-//! "Decrypt".
+//! what it releases before more is read. It says why the input is no whole message, where it isn't
+//! one. It holds one unit, one piece and what that releases. Standard: AWS Encryption SDK
+//! Specification, "Decrypt".
 //!
 //! `specs/Decrypt.antt` says what a decryption comes to, by the judgement of all the bytes taken;
 //! `specs/Told.antt` and `specs/Laws.antt` what follows where the manager tells its keys and the

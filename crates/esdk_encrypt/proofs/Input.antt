@@ -1,5 +1,5 @@
 -- An input that is fed to a sealer piece by piece, whose frames a receiver takes.
-use Rattle.std.proofs.Common.{◌≡◌, ◌∙◌, ℕ, ◌+◌, ◌-◌, ◌<◌, ◌≤◌, ◌^◌, List, [], ◌++◌, length, take, true, Some, Ok, Err, inr, inl, refl, sym, ap, subst, arith, length-append, length-take}
+use Rattle.std.proofs.Common.{◌≡◌, ◌∙◌, ℕ, ◌+◌, ◌-◌, ◌<◌, ◌≤◌, ◌^◌, List, [], ◌++◌, length, take, true, OnOk, Some, Ok, Err, inr, inl, refl, sym, ap, subst, arith, length-append, length-take}
 use Rattle.std.specs.Io.KnownBytes.{IsAtEnd}
 use Rattle.esdk_base.specs.declared.receiver.FeedError.TheVariants as fed_errors
 use Rattle.esdk_base.specs.Streams.{SourceState}
@@ -11,12 +11,12 @@ use Rattle.keyring_trait.specs.Materials.{EncMaterialsValue}
 use Rattle.stream_seal.specs.declared.errors.SealError.TheVariants as seals
 use Rattle.stream_seal.specs.declared.session.Sealer.{Sealer}
 use Rattle.stream_seal.specs.Feeding.{IsFeeding, fed_out, feed_refusal, frames_given}
-use Rattle.stream_seal.specs.Receiving.{SealerFedUntil, FeedsSealerPiece}
 use Rattle.stream_seal.specs.Session.{SealingValue}
 use Rattle.stream_seal.specs.Stands.{Stands}
 use Rattle.stream_seal.specs.Start.{most_frames, most_text, start_of}
 use Rattle.stream_seal.proofs.Feeding.{is_feeding, refuses_piece}
 use Rattle.stream_seal.proofs.GivenFrames.{frames_of_most}
+use Rattle.gathered_output.specs.Gathering.{FailsAtFirst}
 use Rattle.whole_input.specs.Taken.{Came, EndSeen, PieceCame}
 use Rattle.whole_input.specs.declared.pieces.End.{End}
 use Rattle.whole_input.specs.declared.pieces.End.TheVariants as ends
@@ -27,7 +27,7 @@ use Rattle.esdk_encrypt.specs.declared.errors.EncryptError.TheVariants as errors
 use Rattle.esdk_encrypt.specs.Encrypt.{EncryptNeedsTooManyFrames, EncryptInputIsTooLong, EncryptSourceFails, StopsSo, header_and_frames, written_so_far}
 use Rattle.esdk_encrypt.specs.Gaining.{gaining}
 pub use Rattle.esdk_encrypt.specs.Gaining.{sink_fails}
-use Rattle.esdk_encrypt.specs.Writing.{FedInto, IsNamed, WritesAs, sealing_of_text}
+use Rattle.esdk_encrypt.specs.Writing.{FedInto, FeedsPiece, IsNamed, WritesAs, sealing_of_text}
 use Rattle.esdk_encrypt.proofs.Sessions.{frames_beyond, gains_more, is_fed, names_frames, room_then, session_then, written_none}
 
 -- ---- the input so far
@@ -105,20 +105,31 @@ module _ {R : Type 0} (takes : R → R → List ℕ → Type 0) (m : EncMaterial
 
     -- ---- a piece came
 
+    fed_ok : (P : Type 0) (r : FedInto E) → WritesAs r (Ok tt) → OnOk r P → P
+    fed_ok P (Ok done) writes so = so
+    fed_ok P (Err (fed_errors.Receiver failed)) writes so = absurd cc
+    fed_ok P (Err (fed_errors.Machine (seals.Refusal refusal))) writes so = absurd cc
+    fed_ok P (Err (fed_errors.Machine error)) writes so = absurd writes
+
+    -- where it was fed to its end, what is so then
+    pub feeding_ok : (piece : List ℕ) (P : Type 0) (r : FedInto E) → WritesAs r (Ok tt) → ((v : SealingValue) → Stands old v → IsFeeding v piece → OnOk r P) → P
+    feeding_ok piece P r writes so = fed_ok P r writes (so (sealing_of_text m size id feeding.text) feeding.stands
+        (is_feeding (sealing_of_text m size id feeding.text) piece (is_fed m size id feeding.text wide feeding.short)))
+
     module _ (piece : List ℕ) (put : R) (new : Sealer) where
-      fed_then : (r : FedInto E) → ((v : SealingValue) → Stands old v → IsFeeding v piece → FeedsSealerPiece takes fails v piece mid put new r)
-          → FeedsSealerPiece takes fails (sealing_of_text m size id feeding.text) piece mid put new r
+      fed_then : (r : FedInto E) → ((v : SealingValue) → Stands old v → IsFeeding v piece → FeedsPiece takes fails v piece mid put new r)
+          → FeedsPiece takes fails (sealing_of_text m size id feeding.text) piece mid put new r
       fed_then r feeds = feeds (sealing_of_text m size id feeding.text) feeding.stands
           (is_feeding (sealing_of_text m size id feeding.text) piece (is_fed m size id feeding.text wide feeding.short))
 
-      names : (v : SealingValue) (r : FedInto E) → FeedsSealerPiece takes fails v piece mid put new r → IsNamed r
+      names : (v : SealingValue) (r : FedInto E) → FeedsPiece takes fails v piece mid put new r → IsNamed r
       names v (Ok done) feeds = tt
       names v (Err (fed_errors.Receiver failed)) feeds = tt
       names v (Err (fed_errors.Machine (seals.Refusal refusal))) feeds = tt
       names v (Err (fed_errors.Machine error)) feeds = absurd feeds
 
       -- its sealer fails only with a refusal
-      pub feeding_names : (r : FedInto E) → ((v : SealingValue) → Stands old v → IsFeeding v piece → FeedsSealerPiece takes fails v piece mid put new r) → IsNamed r
+      pub feeding_names : (r : FedInto E) → ((v : SealingValue) → Stands old v → IsFeeding v piece → FeedsPiece takes fails v piece mid put new r) → IsNamed r
       feeding_names r feeds = names (sealing_of_text m size id feeding.text) r (fed_then r feeds)
 
       module _ (takes_more : (r s t : R) (xs ys : List ℕ) → takes r s xs → takes s t ys → takes r t (xs ++ ys)) (next : SourceState) (came : PieceCame most_piece now next piece) where
@@ -126,7 +137,7 @@ module _ {R : Type 0} (takes : R → R → List ℕ → Type 0) (m : EncMaterial
         came_then = came_more input now next feeding.text piece feeding.came came.came
 
         pub feeding_more : (r : FedInto E) (sum : ℕ) → sum ≡ count + length piece → WritesAs r (Ok tt)
-            → ((v : SealingValue) → Stands old v → IsFeeding v piece → FeedsSealerPiece takes fails v piece mid put new r)
+            → ((v : SealingValue) → Stands old v → IsFeeding v piece → FeedsPiece takes fails v piece mid put new r)
             → FeedingInput takes m size id input next output put new sum
         feeding_more (Ok done) sum sum_is writes feeds =
             let fed = fed_then (Ok done) feeds in
@@ -165,7 +176,7 @@ module _ {R : Type 0} (takes : R → R → List ℕ → Type 0) (m : EncMaterial
             }
 
         -- the receiver failed at some of what the piece gives
-        put_fails : (failed : E) → SealerFedUntil fails (sealing_of_text m size id feeding.text) piece failed mid put new
+        put_fails : (failed : E) → FailsAtFirst fails mid put (fed_out (sealing_of_text m size id feeding.text) piece) failed
             → StopsSo m size id input next (gaining takes fails output put) (errors.Outside outsides.SinkFault)
         put_fails failed fed = record {
           text = feeding.text ++ piece;
@@ -178,14 +189,14 @@ module _ {R : Type 0} (takes : R → R → List ℕ → Type 0) (m : EncMaterial
             few = came.fits;
             was = record {
               short = feeding.short;
-              stopped = frames_beyond m size id feeding.text piece takes fails output mid put fed.given (fed_out fed.still.now fed.rest) failed wide feeding.short fed.some fed.still.way.out
+              stopped = frames_beyond m size id feeding.text piece takes fails output mid put fed.given fed.rest failed wide feeding.short fed.some fed.is
                   feeding.gained fed.failed;
             };
           }));
         }
 
         pub feeding_fails : (r : FedInto E) (error : EncryptError) → WritesAs r (Err error)
-            → ((v : SealingValue) → Stands old v → IsFeeding v piece → FeedsSealerPiece takes fails v piece mid put new r)
+            → ((v : SealingValue) → Stands old v → IsFeeding v piece → FeedsPiece takes fails v piece mid put new r)
             → StopsSo m size id input next (gaining takes fails output put) error
         feeding_fails (Ok done) error writes feeds = absurd cc
         feeding_fails (Err (fed_errors.Receiver failed)) error writes feeds =

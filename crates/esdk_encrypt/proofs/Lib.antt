@@ -3,6 +3,7 @@ pub mod EarlyEnds
 pub mod Ending
 pub mod Fitting
 pub mod Gaining
+pub mod GatheredFrames
 pub mod GainsMore
 pub mod Input
 pub mod Messages

@@ -9,10 +9,12 @@ use Rattle.esdk_fields.specs.declared.refusals.Outside.TheVariants as outsides
 use Rattle.keyring_trait.specs.Materials.{EncMaterialsValue}
 use Rattle.stream_seal.specs.declared.errors.SealError.{SealError}
 use Rattle.stream_seal.specs.declared.errors.SealError.TheVariants as seals
-use Rattle.stream_seal.specs.Feeding.{frames_given}
+use Rattle.stream_seal.specs.Feeding.{fed_out, frames_given}
+use Rattle.stream_seal.specs.Receiving.{SealerFedShort, SealerFedWhole}
 use Rattle.stream_seal.specs.declared.session.Sealer.{Sealer}
 use Rattle.stream_seal.specs.Session.{SealingValue, sealing_finished}
 use Rattle.stream_seal.specs.Stands.{Stands}
+use Rattle.gathered_output.specs.Gathering.{FailsAtFirst}
 use Rattle.whole_input.specs.declared.pieces.End.{End}
 use Rattle.whole_input.specs.declared.pieces.End.TheVariants as ends
 use Rattle.esdk_encrypt.specs.declared.errors.EncryptError.{EncryptError}
@@ -41,6 +43,19 @@ FedInto E = Result (Unit {0}) (FeedError SealError E)
 -- into a sink
 abbrev pub Fed : Type 0
 Fed = FedInto Failed
+
+-- What feeding a piece comes to, whose frames are gathered and handed on before more is read: the
+-- receiver took all that the piece gives, or all that its bytes give before one is refused; or it
+-- failed while it was given some of that which comes first.
+abbrev pub FeedsPiece : {R E : Type 0} → (R → R → List ℕ → Type 0) → (R → R → List ℕ → E → Type 0)
+    → SealingValue → List ℕ → R → R → Sealer → FedInto E → Type 0
+FeedsPiece takes fails v piece old new sealer (Ok done) =
+    SealerFedWhole takes v piece old new sealer
+FeedsPiece takes fails v piece old new sealer (Err (feeds.Receiver error)) =
+    FailsAtFirst fails old new (fed_out v piece) error
+FeedsPiece takes fails v piece old new sealer (Err (feeds.Machine (seals.Refusal refusal))) =
+    SealerFedShort takes v piece refusal old new sealer
+FeedsPiece takes fails v piece old new sealer (Err (feeds.Machine error)) = ⊥
 
 -- where the sealer failed, it names a refusal
 abbrev pub IsNamed : {E : Type 0} → FedInto E → Type 0

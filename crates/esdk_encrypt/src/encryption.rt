@@ -25,10 +25,12 @@ use std::alloc::Global;
 /// id, and the manager is asked with the others, at the moment of the options; it serves materials
 /// once at the most. Of its materials the header is made: it stores the pairs of the context whose
 /// keys aren't required, and its tag authenticates the others too. Then memory is reserved for one
-/// frame and for one piece of the input; want of it is answered no later. The header is written,
-/// and the input is taken in pieces of at most 65,536 bytes: a frame is written once it is full and
-/// more of the input came, and the final frame once the input's end was seen. The output takes each
-/// of them by one call.
+/// frame, for one piece of the input and for 69,632 bytes of what a piece gives; want of it is
+/// answered no later. The header is written, and the input is taken in pieces of at most 65,536
+/// bytes: a frame is written once it is full and more of the input came, and the final frame once
+/// the input's end was seen. The output takes the header by one call, and so the final frame. What
+/// a piece gives it takes before more is read: by one call where that is one frame, or no more than
+/// 69,632 bytes, as with frames of 512 bytes, of 4,096 and of 32,768.
 ///
 /// `EntropyFault` leaves the manager, the input and the output as they were, and the bytes to come
 /// undrawn. The next errors leave the input and the output as they were: `RequiredAbsent` (Q4),
@@ -102,6 +104,6 @@ pub fn encrypt<M: Manager, S: Source, O: Receiver, W: Entropy>(
 {
     let given = ask(alloc, manager, request, options, entropy)?;
     let id = given.draws.message_id();
-    let (sealer, pieces) = begin(alloc, &given.materials, options, &id)?;
-    write(sealer, pieces, input, output)
+    let (sealer, pieces, gathered) = begin(alloc, &given.materials, options, &id)?;
+    write(sealer, pieces, gathered, input, output)
 }

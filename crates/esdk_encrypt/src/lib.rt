@@ -2,8 +2,8 @@
 //!
 //! `encrypt` draws a message id and what the manager makes a data key and its wraps of, asks the
 //! manager for materials, and writes the message as the input comes: the header first, then each
-//! frame once it is full. It holds one frame and one piece of the input. Standard: AWS Encryption
-//! SDK Specification, "Encrypt".
+//! frame once it is full. It holds one frame, one piece of the input and what that gives. Standard:
+//! AWS Encryption SDK Specification, "Encrypt".
 //!
 //! `specs/Encrypt.antt` says over any manager what the message is, why a run ends, and what is
 //! written then; `specs/Told.antt` says it over a manager that is exact and plain and tells its

@@ -27,6 +27,19 @@ returns-in_err-pieces-clause-bears g c = (None, λ lines bore. bore)
 pub returns-in_err-pieces-clause-unasked : goal.returns-in_err-pieces-clause-unasked
 returns-in_err-pieces-clause-unasked g c = λ new bytes came none. refl
 
+-- ---- there is no room for what a piece gives
+
+pub returns-in_err-gathered-clause-ends : goal.returns-in_err-gathered-clause-ends
+returns-in_err-gathered-clause-ends g c = λ new.
+    lacks_first (g.M.Manager.state c.args.manager.now) c.args.now new.settings new.given (g.S.Source.state c.args.input.now) (g.O.Sink.state c.args.output.now) (c.args.output.now ≡ c.args.output.now) refl
+    c.from_residual-in_err-gathered.result c.from_residual-in_err-gathered.ensures.1
+
+pub returns-in_err-gathered-clause-bears : goal.returns-in_err-gathered-clause-bears
+returns-in_err-gathered-clause-bears g c = (None, λ lines bore. bore)
+
+pub returns-in_err-gathered-clause-unasked : goal.returns-in_err-gathered-clause-unasked
+returns-in_err-gathered-clause-unasked g c = λ new bytes came none. refl
+
 -- ---- the pieces are fed
 
 pub reads-init : goal.reads-init
@@ -36,6 +49,7 @@ reads-init g c =
       going = record { session = new_opening_session first.settings first.given; stands = first.stands; goes = opened_goes first.settings first.given };
       went = c.requires.manager;
       lasts = g.met.S.Source.lasts_none _;
+      none = c.in_ok-gathered.ensures;
       bytes = [];
       well = well_none (g.S.Source.state c.args.input.now) c.in_ok-pieces.pieces.taken (ap (λ (p : PiecesValue). p.taken) c.in_ok-pieces.ensures);
       fed = λ new. whole_none g.M.Manager.state (PutsAll g.O.Sink.state) c.args.now (new_opening_session new.settings new.given) c.args.manager.now c.args.output.now c.args.opener.now (opened_goes new.settings new.given)
@@ -53,12 +67,13 @@ reads-preserved g c =
       going = record { session = f.fed.session; stands = f.fed.stands; goes = f.fed.feeds.goes };
       went = went_on _ _ _ before.went c.feed_piece.ensures.went;
       lasts = g.met.S.Source.lasts_more _ _ _ before.lasts c.next.ensures.lasts;
+      none = c.in_default-feed_piece.ensures.empty;
       bytes = bytes ++ c.next.new.self.piece;
       well = well_more (g.S.Source.state c.args.input.now) (g.S.Source.state c.reads.input) (g.S.Source.state c.next.new.input) c.reads.pieces.taken bytes c.next.new.self before.well next;
       fed = λ new.
           (let w = before.fed new in
           subst (λ (p : List ℕ). FedWhole g.M.Manager.state (PutsAll g.O.Sink.state) c.args.now (new_opening_session new.settings new.given) (bytes ++ p) c.args.manager.now c.feed_piece.new.manager
-          c.args.output.now c.feed_piece.new.output c.feed_piece.new.opener) c.piece.ensures
+          c.args.output.now c.feed_piece.new.output c.feed_piece.new.opener) c.piece-piece.ensures
           (whole_as_one g.M.Manager.state (PutsAll g.O.Sink.state) c.args.now (new_opening_session new.settings new.given) bytes _ c.args.manager.now c.reads.manager c.feed_piece.new.manager c.args.output.now
           c.reads.output c.feed_piece.new.output c.reads.opener c.feed_piece.new.opener w (c.in_default-feed_piece.ensures.fed w.fed.session w.fed.stands)
           (λ r s t xs ys. takes_more (g.O.Sink.state r) (g.O.Sink.state s) (g.O.Sink.state t) xs ys)));
@@ -74,9 +89,9 @@ returns-in-Err-feed_piece-clause-ends g c = λ new.
     let well = well_more (g.S.Source.state c.args.input.now) (g.S.Source.state c.reads.input) (g.S.Source.state c.next.new.input) c.reads.pieces.taken bytes c.next.new.self before.well next in
     let w = before.fed new in
     let (error, feeds, called) = c.in-Err-feed_piece.ensures.fed w.fed.session w.fed.stands in
-    feed_ends g.M.Manager.state g.O.Sink.state c.args.now new.settings new.given bytes c.piece.result.now c.args.manager.now c.reads.manager c.feed_piece.new.manager c.args.output.now c.reads.output
+    feed_ends g.M.Manager.state g.O.Sink.state c.args.now new.settings new.given bytes c.piece-piece.result.now c.args.manager.now c.reads.manager c.feed_piece.new.manager c.args.output.now c.reads.output
     c.feed_piece.new.output c.reads.opener c.feed_piece.new.opener (g.S.Source.state c.args.input.now) (g.S.Source.state c.next.new.input) w
-    (subst (λ (p : List ℕ). Came (g.S.Source.state c.args.input.now) (g.S.Source.state c.next.new.input) (bytes ++ p)) (sym c.piece.ensures) well.came) well.faults (rw c.piece.ensures next.0.fits) error
+    (subst (λ (p : List ℕ). Came (g.S.Source.state c.args.input.now) (g.S.Source.state c.next.new.input) (bytes ++ p)) (sym c.piece-piece.ensures) well.came) well.faults (rw c.piece-piece.ensures next.0.fits) error
     c.in-Err-feed_piece.error feeds called
 
 pub returns-in-Err-feed_piece-clause-bears : goal.returns-in-Err-feed_piece-clause-bears
@@ -88,9 +103,9 @@ returns-in-Err-feed_piece-clause-bears g c =
     let well = well_more (g.S.Source.state c.args.input.now) (g.S.Source.state c.reads.input) (g.S.Source.state c.next.new.input) c.reads.pieces.taken bytes c.next.new.self before.well next in
     let w = before.fed first in
     let (error, feeds, called) = c.in-Err-feed_piece.ensures.fed w.fed.session w.fed.stands in
-    feed_bears g.M.Manager.state g.O.Sink.state c.args.now first.settings first.given bytes c.piece.result.now c.args.manager.now c.reads.manager c.feed_piece.new.manager c.args.output.now c.reads.output
+    feed_bears g.M.Manager.state g.O.Sink.state c.args.now first.settings first.given bytes c.piece-piece.result.now c.args.manager.now c.reads.manager c.feed_piece.new.manager c.args.output.now c.reads.output
     c.feed_piece.new.output c.reads.opener c.feed_piece.new.opener (g.S.Source.state c.args.input.now) (g.S.Source.state c.next.new.input) w
-    (subst (λ (p : List ℕ). Came (g.S.Source.state c.args.input.now) (g.S.Source.state c.next.new.input) (bytes ++ p)) (sym c.piece.ensures) well.came) well.faults (rw c.piece.ensures next.0.fits) error feeds
+    (subst (λ (p : List ℕ). Came (g.S.Source.state c.args.input.now) (g.S.Source.state c.next.new.input) (bytes ++ p)) (sym c.piece-piece.ensures) well.came) well.faults (rw c.piece-piece.ensures next.0.fits) error feeds
 
 pub returns-in-Err-feed_piece-clause-unasked : goal.returns-in-Err-feed_piece-clause-unasked
 returns-in-Err-feed_piece-clause-unasked g c = λ new others told none.
@@ -98,12 +113,12 @@ returns-in-Err-feed_piece-clause-unasked g c = λ new others told none.
     let bytes : List ℕ = before.bytes in
     let next = rw c.in_default.is at c.next.ensures.next in
     let well = well_more (g.S.Source.state c.args.input.now) (g.S.Source.state c.reads.input) (g.S.Source.state c.next.new.input) c.reads.pieces.taken bytes c.next.new.self before.well next in
-    let came = subst (λ (p : List ℕ). Came (g.S.Source.state c.args.input.now) (g.S.Source.state c.next.new.input) (bytes ++ p)) (sym c.piece.ensures) well.came in
+    let came = subst (λ (p : List ℕ). Came (g.S.Source.state c.args.input.now) (g.S.Source.state c.next.new.input) (bytes ++ p)) (sym c.piece-piece.ensures) well.came in
     let w = before.fed new in
     let (error, feeds, called) = c.in-Err-feed_piece.ensures.fed w.fed.session w.fed.stands in
-    feed_unasked g.M.Manager.state g.O.Sink.state c.args.now new.settings new.given bytes c.piece.result.now c.args.manager.now c.reads.manager c.feed_piece.new.manager c.args.output.now c.reads.output
-    c.feed_piece.new.output c.reads.opener c.feed_piece.new.opener (g.S.Source.state c.args.input.now) (g.S.Source.state c.next.new.input) w came well.faults (rw c.piece.ensures next.0.fits) error feeds
-    (came_headless new.settings (g.S.Source.state c.args.input.now) (g.S.Source.state c.next.new.input) (bytes ++ c.piece.result.now) others came told none)
+    feed_unasked g.M.Manager.state g.O.Sink.state c.args.now new.settings new.given bytes c.piece-piece.result.now c.args.manager.now c.reads.manager c.feed_piece.new.manager c.args.output.now c.reads.output
+    c.feed_piece.new.output c.reads.opener c.feed_piece.new.opener (g.S.Source.state c.args.input.now) (g.S.Source.state c.next.new.input) w came well.faults (rw c.piece-piece.ensures next.0.fits) error feeds
+    (came_headless new.settings (g.S.Source.state c.args.input.now) (g.S.Source.state c.next.new.input) (bytes ++ c.piece-piece.result.now) others came told none)
 
 pub returns-in-Err-feed_piece-clause-lasts : goal.returns-in-Err-feed_piece-clause-lasts
 returns-in-Err-feed_piece-clause-lasts g c = g.met.S.Source.lasts_more _ _ _ c.reads.invariant.lasts c.next.ensures.lasts

@@ -1,5 +1,5 @@
 -- The opener was fed the bytes that came, and goes on.
-use Rattle.std.proofs.Common.{◌-◌, ◌^◌, ℕ, List}
+use Rattle.std.proofs.Common.{◌≡◌, ◌-◌, ◌^◌, ℕ, List, []}
 use Rattle.esdk_base.specs.Receiver.{PutsAll}
 use Rattle.keyring_trait.specs.Manager.{Went}
 use Rattle.stream_open.specs.Receiving.{FedWhole}
@@ -13,6 +13,7 @@ invariant-reads g l = record {
   going : OpenerIsGoing l.opener;
   went : Went (g.M.Manager.state l.fn.manager) (g.M.Manager.state l.manager);
   lasts : g.S.Source.lasts l.fn.input l.input;
+  none : l.gathered ≡ [];
   bytes : List ℕ;
   well : CameWell (g.S.Source.state l.fn.input) (g.S.Source.state l.input) l.pieces.taken bytes;
   fed : (new : OpenerIsNew l.fn.opener)

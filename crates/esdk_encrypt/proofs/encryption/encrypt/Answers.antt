@@ -63,6 +63,7 @@ write-requires g c = record {
     stands = c.in_ok-sealer.ensures.stands;
   };
   none = c.in_ok-sealer.ensures.none;
+  empty = c.in_ok-sealer.ensures.empty;
 }
 
 pub returns-clause-done : goal.returns-clause-done

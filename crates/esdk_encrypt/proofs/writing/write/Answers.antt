@@ -1,7 +1,7 @@
 use Rattle.std.proofs.Common.{[], arith, refl}
 use Rattle.std.proofs.lemmas.Result.{err_from_is_err_and}
 use Rattle.esdk_encrypt.specs.Writing.{sealing_of_text}
-use Rattle.esdk_encrypt.proofs.Input.{ended_most, feeding_fails, feeding_more, feeding_names, feeding_none}
+use Rattle.esdk_encrypt.proofs.Input.{ended_most, feeding_fails, feeding_more, feeding_names, feeding_none, feeding_ok}
 use Rattle.esdk_encrypt.proofs.Messages.{concludes, header_fails}
 use Rattle.esdk_encrypt.proofs.writing.write.Goals as goal
 
@@ -14,6 +14,7 @@ returns-in_default-clause-writes g c = λ m size id wide stands.
 pub reads-init : goal.reads-init
 reads-init g c = record {
   few = omega (arith, c.requires.none);
+  none = c.requires.empty;
   feeds = λ m size id wide stands.
       feeding_none g.O.Receiver.takes m size id wide _ _ _ _ _ c.header.result.now (c.header.ensures (sealing_of_text m size id []) stands) stands c.in-Ok.ensures c.requires.none;
   most = omega arith;
@@ -32,6 +33,10 @@ reads-preserved g c =
     let came = c.in-Ok-next.ensures.next in
     record {
       few = came.2;
+      none =
+          let new = c.requires.unfed in
+          feeding_ok g.O.Receiver.takes new.materials new.size new.id new.wide g.O.Receiver.fails _ _ _ _ _ _
+          (c.reads.invariant.feeds new.materials new.size new.id new.wide new.stands) c.piece.result.now _ c.feed.result c.in_ok-written-in-Ok-next.ensures c.feed.ensures.empty;
       feeds = λ m size id wide stands.
           feeding_more g.O.Receiver.takes m size id wide g.O.Receiver.fails _ _ _ _ _ _ (c.reads.invariant.feeds m size id wide stands) c.next.new.self.piece _ _ g.met.O.Receiver.takes_more _ came.0
           c.feed.result _ came.1 c.in_ok-written-in-Ok-next.ensures (rw c.piece.ensures at c.feed.ensures.feeds);

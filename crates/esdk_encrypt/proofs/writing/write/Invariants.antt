@@ -1,5 +1,5 @@
 -- The sealer was fed the bytes that came, and the output took what that gave.
-use Rattle.std.proofs.Common.{ℕ, ◌+◌, ◌-◌, ◌^◌, ◌≤◌, List, []}
+use Rattle.std.proofs.Common.{◌≡◌, ℕ, ◌+◌, ◌-◌, ◌^◌, ◌≤◌, List, []}
 use Rattle.keyring_trait.specs.Materials.{EncMaterialsValue}
 use Rattle.stream_seal.specs.Stands.{Stands}
 use Rattle.esdk_encrypt.specs.Writing.{sealing_of_text}
@@ -9,6 +9,7 @@ use Rattle.esdk_encrypt.proofs.writing.write.Given as goal
 abbrev pub invariant-reads : goal.invariant-reads
 invariant-reads g l = record {
   few : l.pieces.taken ≤ 2 ^ 62;
+  none : l.gathered ≡ [];
   feeds : (m : EncMaterialsValue) (size : ℕ) (id : List ℕ) → 1 ≤ size → Stands l.initial.sealer (sealing_of_text m size id [])
       → FeedingInput g.O.Receiver.takes m size id (g.S.Source.state l.fn.input) (g.S.Source.state l.input) l.fn.output l.output l.sealer l.pieces.taken;
   most : (g.S.Source.state l.input).given ≤ (g.S.Source.state l.fn.input).given + l.pieces.taken;
