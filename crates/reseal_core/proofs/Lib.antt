@@ -3,6 +3,7 @@ pub mod Beginning
 pub mod Concluding
 pub mod Feeding
 pub mod FrontsLeft
+pub mod LockedUnasked
 pub mod NewMaterials
 pub mod NewMessages
 pub mod OpenerEnds

@@ -358,3 +358,19 @@ ResealEnds asked input taken output put entropy spent untouched unasked
 ResealEnds asked input taken output put entropy spent untouched unasked error =
     DrawsJust asked.wraps
     entropy spent (λ drawn. ResealEndsSo asked drawn input taken output put error)
+
+-- ---- whether the manager of the new message is asked
+
+-- The old message was unlocked, with what its manager answered, by bytes that have no fault: all
+-- that came but at most the last piece.
+pub record WasUnlocked (asked : Resealing) (input taken : SourceState) : Type 0 where
+  pub first : List ℕ
+  pub whole : List KeyValue
+  pub only : List KeyValue
+  pub key : List ℕ
+  pub opens : OpensFirst asked input taken first whole only key
+
+-- this is so, or the old message was unlocked; `unasked` says that the manager of the new one is as
+-- before
+abbrev pub UnaskedUnlessUnlocked : Resealing → SourceState → SourceState → Type 0 → Type 0
+UnaskedUnlessUnlocked asked input taken unasked = unasked ⊎ WasUnlocked asked input taken

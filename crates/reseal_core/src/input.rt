@@ -13,6 +13,7 @@ ghost use Rattle.esdk_decrypt.specs.Underway.{BearsOnce, IsUnasked};
 ghost use Rattle.reseal_core.specs.declared.errors.InputError.TheVariants.{Memory};
 ghost use Rattle.reseal_core.specs.declared.errors.ResealError.TheVariants.{Stopped};
 ghost use Rattle.reseal_core.specs.Reseal.{ResealEndsSo, ResealEnds, ResealsInput, resealing_from};
+ghost use Rattle.reseal_core.specs.Reseal.{UnaskedUnlessUnlocked};
 ghost use Rattle.reseal_core.specs.Session.{ResealingValue, new_resealing_session};
 ghost use Rattle.reseal_core.specs.Stands.{BearsAfter, Stands};
 ghost use Rattle.reseal_core.specs.Told.{resealing_told};
@@ -50,10 +51,10 @@ pub struct ResealOptions {
 /// First 64 bytes and 12 for each wrap of `sealing` are drawn by one fill: 32 are the new message's
 /// id, and `sealing` is asked with the others. Each manager serves materials once at the most, and
 /// `sealing` once for a message that was written, with no declared length; of an input whose header
-/// isn't whole neither is asked. The old message is judged in order: the first fault ends the run.
-/// Once it is unlocked the new header is written, and then a frame once it is full and more of the
-/// text was released, before more is read; the final frame once the input's end was seen and the
-/// old message is whole.
+/// isn't whole neither is asked, and `sealing` of none that isn't unlocked. The old message is
+/// judged in order: the first fault ends the run. Once it is unlocked the new header is written,
+/// and then a frame once it is full and more of the text was released, before more is read; the
+/// final frame once the input's end was seen and the old message is whole.
 ///
 /// What an error tells of came with the last bytes that were taken, of which there are at most
 /// 65,536: those before them have no fault, where one is answered; no whole header, where a
@@ -138,6 +139,10 @@ pub fn reseal<A: Manager, B: Manager, S: Source, O: Sink, W: Entropy>(
         result }
     ensures unasked { IsUnasked options.settings (S.state input.old) (S.state input.new)
         ((opening.new ≡ opening.old) × (sealing.new ≡ sealing.old)) }
+    ensures locked { UnaskedUnlessUnlocked
+        (resealing_from (A.state opening.old) (A.state opening.new) (B.state sealing.old)
+        (B.state sealing.new) options.now options.settings given.now options.frame_length)
+        (S.state input.old) (S.state input.new) (sealing.new ≡ sealing.old) }
     ensures taken { (S.state input.new).given ≤ (S.state input.old).given + 2 ^ 62 }
     ensures lasts { S.lasts input.old input.new }
 {
@@ -214,6 +219,11 @@ fn feed_input<A: Manager, B: Manager, S: Source, O: Sink>(
         → Stands resealer.old (new_resealing_session settings given size random)
         → IsUnasked settings (S.state input.old) (S.state input.new)
         ((opening.new ≡ opening.old) × (sealing.new ≡ sealing.old)) }
+    ensures locked { (settings : Settings) (given : List KeyValue) (size : ℕ) (random : List ℕ)
+        → Stands resealer.old (new_resealing_session settings given size random)
+        → UnaskedUnlessUnlocked (resealing_from (A.state opening.old) (A.state opening.new)
+        (B.state sealing.old) (B.state sealing.new) now settings given size)
+        (S.state input.old) (S.state input.new) (sealing.new ≡ sealing.old) }
     ensures taken { (S.state input.new).given ≤ (S.state input.old).given + 2 ^ 62 }
     ensures lasts { S.lasts input.old input.new }
 {

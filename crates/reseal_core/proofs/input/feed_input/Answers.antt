@@ -1,4 +1,4 @@
-use Rattle.std.proofs.Common.{◌≡◌, ◌∙◌, ◌++◌, ◌+◌, ◌*◌, ℕ, List, [], drop, length, take, None, refl, sym, ap, subst, arith, false}
+use Rattle.std.proofs.Common.{◌≡◌, ◌∙◌, ◌++◌, ◌+◌, ◌*◌, ℕ, List, [], drop, length, take, None, inl, refl, sym, ap, subst, arith, false}
 use Rattle.std.proofs.lemmas.List.{length-drop}
 use Rattle.std.proofs.lemmas.Result.{err_from_is_err_and}
 use Rattle.keyring_trait.proofs.Going.{went_on}
@@ -11,6 +11,7 @@ use Rattle.reseal_core.specs.Session.{gone_on, new_resealing_session}
 use Rattle.reseal_core.proofs.Bearing.{bears_same, made_fed, made_none, made_short}
 use Rattle.reseal_core.proofs.Concluding.{memory_first}
 use Rattle.reseal_core.proofs.Feeding.{input_ends, is_unfed, left_is, left_then, reached_none}
+use Rattle.reseal_core.proofs.LockedUnasked.{reached_locked, step_locked}
 use Rattle.reseal_core.proofs.Reaching.{random_kept, still_going}
 use Rattle.reseal_core.proofs.StepEnds.{opened_bears, step_ends, steps_fed, unstopped}
 use Rattle.reseal_core.proofs.Unasked.{reached_unasked, step_unasked}
@@ -191,3 +192,27 @@ returns-in-Err-step-clause-unasked g c = λ settings given size random stands ot
     (omega (arith, u.some, length-drop c.in-Ok.from c.unfed.new.pieces.piece)) (rw left at c.step.ensures.unasked (gone_on (new_resealing_session settings given size random) r.fed.session r.materials) r.stands)
     (came_headless settings (g.S.Source.state c.args.input.now) (g.S.Source.state c.unfed.new.input) (i.bytes ++ drop c.in-Ok.from c.unfed.new.pieces.piece) others u.well.came told none)
     c.in-Err-step.error (rw left at c.in-Err-step.ensures.steps (gone_on (new_resealing_session settings given size random) r.fed.session r.materials) r.stands refl)
+
+-- ---- the old message isn't unlocked
+
+pub returns-in_err-pieces-clause-locked : goal.returns-in_err-pieces-clause-locked
+returns-in_err-pieces-clause-locked g c = λ settings given size random stands. inl refl
+
+pub returns-in-Err-clause-locked : goal.returns-in-Err-clause-locked
+returns-in-Err-clause-locked g c = λ settings given size random stands.
+    let i = c.steps.invariant in
+    let ended = input_ends (g.S.Source.state c.args.input.now) (g.S.Source.state c.steps.input) (g.S.Source.state c.unfed.new.input) c.steps.pieces c.unfed.new.pieces c.steps.fed i.bytes c.in-Err.end i.well (rw c.in-Err.is at c.unfed.ensures.unfed) in
+    reached_locked g.A.Manager.state g.B.Manager.state c.args.now settings given size random i.bytes c.args.opening.now c.steps.opening c.args.sealing.now c.steps.sealing (g.O.Sink.state c.args.output.now)
+    (g.O.Sink.state c.steps.output) c.steps.resealer (i.reached settings given size random stands) (g.S.Source.state c.args.input.now) (g.S.Source.state c.unfed.new.input) ended.0
+
+pub returns-in-Err-step-clause-locked : goal.returns-in-Err-step-clause-locked
+returns-in-Err-step-clause-locked g c = λ settings given size random stands.
+    let i = c.steps.invariant in
+    let r = i.reached settings given size random stands in
+    let left = left_is c.piece.result.now c.unfed.new.pieces.piece c.in-Ok.from c.piece.ensures in
+    let u = is_unfed (g.S.Source.state c.args.input.now) (g.S.Source.state c.steps.input) (g.S.Source.state c.unfed.new.input) c.steps.pieces c.unfed.new.pieces c.steps.fed c.in-Ok.from i.bytes i.few i.well (rw c.in-Ok.is at c.unfed.ensures.unfed) in
+    step_locked g.A.Manager.state g.B.Manager.state c.args.now settings given size random i.bytes c.args.opening.now c.steps.opening c.args.sealing.now c.steps.sealing (g.O.Sink.state c.args.output.now)
+    (g.O.Sink.state c.steps.output) c.steps.resealer r (drop c.in-Ok.from c.unfed.new.pieces.piece) c.step.new.opening c.step.new.sealing (g.O.Sink.state c.step.new.output) c.step.new.self (c.step.new.output ≡ c.steps.output)
+    (omega (arith, u.some, length-drop c.in-Ok.from c.unfed.new.pieces.piece)) (rw left at c.step.ensures.unasked (gone_on (new_resealing_session settings given size random) r.fed.session r.materials) r.stands)
+    (g.S.Source.state c.args.input.now) (g.S.Source.state c.unfed.new.input) u.well.came (omega (arith, u.few, length-drop c.in-Ok.from c.unfed.new.pieces.piece)) c.in-Err-step.error
+    (rw left at c.in-Err-step.ensures.steps (gone_on (new_resealing_session settings given size random) r.fed.session r.materials) r.stands refl)

@@ -118,3 +118,19 @@ returns-in_err-end-clause-unasked g c =
 pub returns-clause-unasked : goal.returns-clause-unasked
 returns-clause-unasked g c =
     c.feed_input.ensures.unasked c.args.options.settings c.args.given.now c.args.options.frame_length c.in-Ok.draws (rw c.bytes.ensures.bytes at c.in_ok-resealer.ensures.stands)
+
+-- ---- the old message isn't unlocked
+
+pub returns-in_default-clause-locked : goal.returns-in_default-clause-locked
+returns-in_default-clause-locked g c = inl refl
+
+pub returns-in_err-resealer-clause-locked : goal.returns-in_err-resealer-clause-locked
+returns-in_err-resealer-clause-locked g c = inl refl
+
+pub returns-in_err-end-clause-locked : goal.returns-in_err-end-clause-locked
+returns-in_err-end-clause-locked g c =
+    c.feed_input.ensures.locked c.args.options.settings c.args.given.now c.args.options.frame_length c.in-Ok.draws (rw c.bytes.ensures.bytes at c.in_ok-resealer.ensures.stands)
+
+pub returns-clause-locked : goal.returns-clause-locked
+returns-clause-locked g c =
+    c.feed_input.ensures.locked c.args.options.settings c.args.given.now c.args.options.frame_length c.in-Ok.draws (rw c.bytes.ensures.bytes at c.in_ok-resealer.ensures.stands)
