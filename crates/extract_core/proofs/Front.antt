@@ -6,8 +6,8 @@ use Rattle.std.proofs.lemmas.List.{append-nil, length-append, length-take}
 use Rattle.esdk_fields.specs.Counts.{Rose}
 use Rattle.esdk_fields.specs.declared.faults.Fault.{Fault}
 use Rattle.esdk_fields.specs.Place.{Place, start, followed}
-use Rattle.esdk_fields.specs.Reading.{Reading, Read, Refused, Wanting, bytes}
-use Rattle.esdk_fields.proofs.Fronts.{fault_after_at, fault_stays, read_after}
+use Rattle.esdk_fields.specs.Reading.{Reading, Read, Refused, Wanting, bytes, value_of}
+use Rattle.esdk_fields.proofs.Fronts.{fault_after_at, fault_stays, read_after, value_stays}
 use Rattle.esdk_fields.proofs.Inverse.{field_is_read}
 use Rattle.esdk_base.specs.Shelf.{Files, Holds, is_missing}
 use Rattle.esdk_base.specs.Streams.{FailsToRead, ShelfState, SourceState}
@@ -17,7 +17,7 @@ use Rattle.header_codec.specs.declared.session.HeaderReader.{HeaderReader}
 use Rattle.header_codec.specs.declared.settings.Settings.{Settings}
 use Rattle.header_codec.specs.Header.{HeaderValue}
 use Rattle.header_codec.specs.Session.{ShowsHeader}
-use Rattle.header_codec.specs.Table.{BeginsWith, HeaderFields, header, header_iv, opening}
+use Rattle.header_codec.specs.Table.{BeginsWith, HeaderFields, head, header, header_iv, opening}
 use Rattle.header_codec.proofs.Followed.{BeginsWith-append}
 use Rattle.header_codec.proofs.Order.{IsSequential-header}
 use Rattle.header_codec.proofs.Steps.{header_is_read}
@@ -30,8 +30,8 @@ use Rattle.whole_input.specs.declared.pieces.End.TheVariants as ends
 use Rattle.whole_input.specs.FileReads.{ComesFrom, Grows, IsSeenAs, reads_in_row}
 use Rattle.whole_input.specs.Pieces.{most_piece}
 use Rattle.whole_input.specs.Taken.{Came, EndSeen}
-use Rattle.whole_input.proofs.Agreeing.{came_front, came_whole}
-use Rattle.extract_core.specs.Extract.{HasHeader, HasNoHeader, IsHeaderOf, OnFile, authentication_size, body_begin, header_fault_at_end, header_reach, most_header, unheaded_as}
+use Rattle.whole_input.proofs.Agreeing.{came_front, came_whole, grows_more, grows_none}
+use Rattle.extract_core.specs.Extract.{GaveHeader, HasHeader, HasNoHeader, IsHeaderOf, OnFile, authentication_size, body_begin, header_fault_at_end, header_reach, most_header, unheaded_as}
 use Rattle.whole_input.specs.FileSource.{FileReadsOn, file_left, left_from}
 
 -- ---- where a header ends
@@ -192,6 +192,33 @@ header_came settings reader old new name first now at h front holds shows =
   where
     read_not_wanting : (r : Reading HeaderFields) (parts : HeaderFields) (end : Place) → r ≡ Read parts end → r ≡ Wanting → ⊥
     read_not_wanting r parts end e w = cc
+
+-- and it is whole in what the shelf's calls gave
+pub header_gave : (settings : Settings) (reader : HeaderReader) (old new : ShelfState) (name : List ℕ) (first now : SourceState) (at : ℕ) → IsFront old new name first now at → HoldsHeader settings reader first now
+    → GaveHeader settings old new name
+header_gave settings reader old new name first now at front holds =
+    let taken : List ℕ = holds.holds.taken in
+    let rest : List ℕ = holds.holds.rest in
+    let same : front.comes.bytes ≡ taken ++ rest = sym front.comes.more ∙ came_is old new name first now at holds.bytes front holds.came ∙ holds.holds.front in
+    record {
+      bytes = front.comes.bytes;
+      first = new.calls;
+      row = front.comes.row;
+      on = grows_none new.calls;
+      parts = holds.holds.parts;
+      whole = ap (head settings) same ∙ ap value_of (value_stays (header settings) taken rest holds.holds.parts holds.holds.end (IsSequential-header settings) holds.holds.read);
+    }
+
+-- whatever is called later
+pub gave_later : (settings : Settings) (old new later : ShelfState) (name : List ℕ) → GaveHeader settings old new name → Grows new.calls later.calls → GaveHeader settings old later name
+gave_later settings old new later name gave grows = record {
+  bytes = gave.bytes;
+  first = gave.first;
+  row = gave.row;
+  on = grows_more gave.first new.calls later.calls gave.on grows;
+  parts = gave.parts;
+  whole = gave.whole;
+}
 
 -- ---- none came
 

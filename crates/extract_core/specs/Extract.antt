@@ -11,11 +11,12 @@ use Rattle.esdk_fields.specs.Reading.{Reading, Read, Refused, Wanting}
 use Rattle.esdk_base.specs.Shelf.{is_missing}
 use Rattle.esdk_base.specs.Sink.{AppendsFront}
 use Rattle.esdk_base.specs.Streams.{FailsToRead, ShelfState, SinkState}
+use Rattle.esdk_seen.specs.Calls.{ShelfCall}
 use Rattle.suite_table.specs.declared.suite.Suite.{Suite}
 use Rattle.suite_table.specs.declared.suite.Suite.TheVariants.{Committing, Uncommitted}
 use Rattle.header_codec.specs.declared.settings.Settings.{Settings}
 use Rattle.header_codec.specs.Header.{HeaderValue}
-use Rattle.header_codec.specs.Table.{BeginsWith, HeaderFields, header}
+use Rattle.header_codec.specs.Table.{BeginsWith, HeaderFields, head, header}
 use Rattle.keyring_trait.specs.declared.manager_errors.ManagerError.TheVariants as managers
 use Rattle.keyring_trait.specs.Unlocking.{Unlocking, Refuses, Unlocks}
 use Rattle.message_format.specs.Judgement.{header_of, lock_fault}
@@ -25,7 +26,7 @@ use Rattle.message_format.specs.declared.unlock_errors.UnlockError.TheVariants a
 use Rattle.header_input.specs.declared.errors.NoHeader.{NoHeader}
 use Rattle.header_input.specs.declared.errors.NoHeader.TheVariants as headers
 use Rattle.whole_input.specs.declared.pieces.End.TheVariants as ends
-use Rattle.whole_input.specs.FileReads.{IsSeenAs}
+use Rattle.whole_input.specs.FileReads.{Grows, IsSeenAs, ReadsRow}
 use Rattle.whole_input.specs.Pieces.{most_piece}
 use Rattle.esdk_decrypt.specs.Decrypt.{AnswersTo, DecryptAsked}
 use Rattle.extract_core.specs.declared.errors.ExtractError.{ExtractError}
@@ -112,6 +113,16 @@ pub record HasHeader (settings : Settings) (old new : ShelfState) (name : List �
   pub is : OnFile old new name (IsHeaderOf settings h)
   pub faults : new.faults ≡ old.faults
   pub given : new.given ≤ old.given + body_begin h + most_piece
+
+-- Between two moments the shelf's first calls read this file in a row, from its front, and a header
+-- is whole in the bytes that they gave.
+pub record GaveHeader (settings : Settings) (old new : ShelfState) (name : List ℕ) : Type 0 where
+  pub bytes : List ℕ
+  pub first : List ShelfCall
+  pub row : ReadsRow name 0 old.calls first bytes
+  pub on : Grows first new.calls
+  pub parts : HeaderFields
+  pub whole : head settings bytes ≡ Some parts
 
 -- the fault of a header that was read so; one that isn't whole is M10
 abbrev pub header_fault_at_end : Reading HeaderFields → Option Fault

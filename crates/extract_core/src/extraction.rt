@@ -1,13 +1,13 @@
 //! The extraction of a range.
 
-ghost use Rattle.std.specs.Prelude.{◌≡◌, ◌+◌, ◌≤◌, ◌^◌, IfErr, IfOk};
+ghost use Rattle.std.specs.Prelude.{◌≡◌, ◌⊎◌, ◌+◌, ◌≤◌, ◌^◌, IfErr, IfOk};
 ghost use Rattle.esdk_decrypt.specs.Decrypt.{asked_from};
 ghost use Rattle.esdk_decrypt.specs.Underway.{BearsOnce};
 ghost use Rattle.keyring_trait.specs.Manager.{Went};
 ghost use Rattle.whole_input.specs.FileReads.{Grows};
-ghost use Rattle.extract_core.specs.Extract.{ExtractEnds, Extracts, HasHeader, HasNoHeader, OnFile};
-ghost use Rattle.extract_core.specs.Extract.{body_begin, extract_locked_as, most_header, most_read};
-ghost use Rattle.extract_core.specs.Extract.{range_of, unheaded_as};
+ghost use Rattle.extract_core.specs.Extract.{ExtractEnds, Extracts, GaveHeader, HasHeader};
+ghost use Rattle.extract_core.specs.Extract.{HasNoHeader, OnFile, body_begin, extract_locked_as};
+ghost use Rattle.extract_core.specs.Extract.{most_header, most_read, range_of, unheaded_as};
 
 use crate::errors::ExtractError;
 use crate::slots::Slots;
@@ -59,7 +59,9 @@ const IV_AND_TAG: usize = 28;
 /// - `Memory`: memory ran out. A front of the range was written; nothing, where the shelf tells
 ///   that it has no file of the name.
 ///
-/// Where the answer isn't `ShelfFault`, no read failed.
+/// Where the answer isn't `ShelfFault`, no read failed. The manager is asked once at the most, and
+/// not at all unless a header is whole in the bytes that the call's first reads gave, in a row from
+/// the file's front.
 pub fn extract<M: Manager, F: Shelf, O: Sink>(
     alloc: Global,
     manager: &mut M,
@@ -90,10 +92,15 @@ pub fn extract<M: Manager, F: Shelf, O: Sink>(
     ensures calls { Grows (F.state shelf.old).calls (F.state shelf.new).calls }
     ensures went { Went (M.state manager.old) (M.state manager.new) }
     ensures bears { BearsOnce (M.state manager.old) (M.state manager.new) now }
+    ensures unasked { GaveHeader settings (F.state shelf.old) (F.state shelf.new) name.now
+        ⊎ (manager.new ≡ manager.old) }
 {
     // Where the manager isn't asked, it stays as it is: `wraps` says what that keeps.
     let _wraps = manager.wraps();
-    let header = header_in(alloc, shelf, name, settings)?;
+    let header = match header_in(alloc, shelf, name, settings) {
+        Ok(header) => header,
+        Err(error) => return Err(unheaded_as(error)),
+    };
     let begin = body_begin(&header);
     let opened = match unlock(alloc, manager, now, given, header) {
         Ok(opened) => opened,
@@ -105,18 +112,20 @@ pub fn extract<M: Manager, F: Shelf, O: Sink>(
 
 /// The header at the front of the file, within these limits.
 ///
-/// `Fault` of the header, M10 where it isn't whole; `ShelfFault` where a read failed or the shelf
-/// has no file of the name; `Memory` where memory runs out.
+/// `Fault` of the header; `End` where it isn't whole, a read failed, or the shelf has no file of
+/// the name; `Memory` where memory runs out.
 fn header_in<F: Shelf>(
     alloc: Global,
     shelf: &mut F,
     name: &str,
     settings: Settings,
-) -> Result<Header, ExtractError>
+) -> Result<Header, NoHeader>
     ensures header { IfOk result (HasHeader settings (F.state shelf.old) (F.state shelf.new)
         name.now) }
-    ensures none { IfErr result (HasNoHeader settings (F.state shelf.old) (F.state shelf.new)
+    ensures gave { IfOk result (λ _. GaveHeader settings (F.state shelf.old) (F.state shelf.new)
         name.now) }
+    ensures none { IfErr result (λ error. HasNoHeader settings (F.state shelf.old)
+        (F.state shelf.new) name.now (unheaded_as error)) }
     ensures files { (F.state shelf.new).files ≡ (F.state shelf.old).files }
     ensures given { OnFile (F.state shelf.old) (F.state shelf.new) name.now
         (λ bytes. (F.state shelf.new).given
@@ -124,12 +133,10 @@ fn header_in<F: Shelf>(
     ensures calls { Grows (F.state shelf.old).calls (F.state shelf.new).calls }
 {
     let mut file = FileSource::new(shelf, name, 0);
-    match take_header(alloc, &mut file, settings) {
-        Ok(reader) => match reader.into_header() {
-            Some(header) => Ok(header),
-            None => unreachable!(),
-        },
-        Err(error) => Err(unheaded_as(error)),
+    let reader = take_header(alloc, &mut file, settings)?;
+    match reader.into_header() {
+        Some(header) => Ok(header),
+        None => unreachable!(),
     }
 }
 
