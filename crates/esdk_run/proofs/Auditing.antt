@@ -13,7 +13,7 @@ use Rattle.keyring_trait.specs.Keyring.{KeyringGoes, KeyringMeaning}
 use Rattle.keyring_trait.specs.Wrapping.{WrapKeyValue}
 use Rattle.multi_keyring.specs.Nodes.{forest}
 use Rattle.multi_keyring.specs.Tree.{all_faults, leaves, node_leaves, tree_meaning}
-use Rattle.multi_keyring.proofs.Leaves.{counts_its_leaves}
+use Rattle.multi_keyring.proofs.Leaves.{counts_its_leaves, shows_its_leaves}
 use Rattle.multi_keyring.specs.declared.tree.Node.{Node}
 use Rattle.multi_keyring.specs.declared.tree.Node.TheVariants.{Handed, Multi, Raw}
 use Rattle.job_file.specs.declared.audit.AuditMessage.{AuditMessage}
@@ -128,6 +128,7 @@ found_all meaning trees name old read new file node left count messages found au
   each = subst (λ (ms : List AuditMessage). FindsEach read new (node_leaves meaning node) (node_leaves meaning left) ms found) are each;
   count_is = count_is;
   faults_left = counts_its_leaves meaning left;
+  uses_left = shows_its_leaves meaning left;
 }
 
 -- or of the first that it isn't found of

@@ -6,7 +6,7 @@ use Rattle.esdk_base.specs.Receiver.{SinkFails}
 use Rattle.esdk_base.specs.Streams.{ShelfState, SinkState}
 use Rattle.esdk_fields.specs.declared.refusals.Outside.TheVariants as outsides
 use Rattle.keyring_trait.specs.Keyring.{KeyringMeaning}
-use Rattle.multi_keyring.specs.Tree.{all_faults}
+use Rattle.multi_keyring.specs.Tree.{all_faults, all_uses}
 use Rattle.job_file.specs.AuditFile.{AuditFile}
 use Rattle.job_file.specs.Audit.{audit_of}
 use Rattle.audit_core.specs.declared.audited.Audited.{Audited}
@@ -61,7 +61,7 @@ pub record Audits (trees : Trees) (name : List ℕ) (old read : ShelfState) (fil
   pub goes : TreeGoes tree left
 
 -- This was found of each message, with so many leaves. `read` is the shelf once both files were
--- read.
+-- read. What is left of the tree shows the uses of keys that its leaves show.
 pub record FindsAll (trees : Trees) (name : List ℕ) (old new : ShelfState) (count : ℕ)
     (found : List Audited) : Type 0 where
   pub file : AuditFile
@@ -73,6 +73,7 @@ pub record FindsAll (trees : Trees) (name : List ℕ) (old new : ShelfState) (co
   pub each : FindsEach read new leaves leaves_left file.messages found
   pub count_is : count ≡ length leaves
   pub faults_left : left.faults ≡ all_faults leaves_left
+  pub uses_left : left.uses ≡ all_uses leaves_left
 
 -- It wasn't found of each message, for this reason.
 pub record FindsNotAll (trees : Trees) (name : List ℕ) (old new : ShelfState)

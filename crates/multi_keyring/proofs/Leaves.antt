@@ -8,12 +8,13 @@ use Rattle.keyring_trait.specs.Wrapping.{WrapKeyValue, first_some, unwrapped}
 use Rattle.keyring_trait.specs.Keyring.{KeyringMeaning}
 use Rattle.raw_aes_keyring.specs.Keyring.{raw_meaning}
 use Rattle.multi_keyring.specs.Forest.{Forest, Nil, RawThen, HandedThen, MultiThen}
-use Rattle.multi_keyring.specs.Tree.{both_keys, all_keys, all_wraps, all_faults, all_steady, joined_members, meanings, leaves, node_leaves, tree_meaning}
+use Rattle.multi_keyring.specs.Tree.{both_keys, both_uses, all_keys, all_uses, all_wraps, all_faults, all_steady, joined_members, meanings, leaves, node_leaves, tree_meaning}
 use Rattle.multi_keyring.specs.declared.tree.Node.{Node}
 use Rattle.multi_keyring.specs.declared.tree.Node.TheVariants.{Raw, Handed, Multi}
 use Rattle.multi_keyring.specs.Laws.{opened_with}
 use Rattle.multi_keyring.proofs.Going.{first_true, second_true}
 use Rattle.multi_keyring.proofs.Joining.{all_keys-append, both_keys-right, all_faults-append, unwrapped-append}
+use Rattle.multi_keyring.proofs.Using.{both_uses-right, all_uses-append}
 
 -- ---- the keys
 
@@ -71,6 +72,22 @@ pub counts_its_leaves : {P : Type 0} (leaf : P → KeyringMeaning) (node : Node 
 counts_its_leaves leaf (Raw key) = omega arith
 counts_its_leaves leaf (Handed keyring) = omega arith
 counts_its_leaves leaf (Multi multi) = forest_counts leaf multi.value.1
+
+-- ---- which keys they went by
+
+forest_shows : {P : Type 0} (leaf : P → KeyringMeaning) (f : Forest P) → all_uses (meanings leaf f) ≡ all_uses (leaves leaf f)
+forest_shows leaf Nil = refl
+forest_shows leaf (RawThen key f) = ap (both_uses (raw_meaning key).uses) (forest_shows leaf f)
+forest_shows leaf (HandedThen keyring f) = ap (both_uses (leaf keyring).uses) (forest_shows leaf f)
+forest_shows leaf (MultiThen has members f) =
+    ap (λ uses. both_uses uses (all_uses (meanings leaf f))) (forest_shows leaf members)
+    ∙ ap (both_uses (all_uses (leaves leaf members))) (forest_shows leaf f)
+    ∙ sym (all_uses-append (leaves leaf members) (leaves leaf f))
+
+pub shows_its_leaves : {P : Type 0} (leaf : P → KeyringMeaning) (node : Node P) → (tree_meaning leaf node).uses ≡ all_uses (node_leaves leaf node)
+shows_its_leaves leaf (Raw key) = sym (both_uses-right (raw_meaning key).uses)
+shows_its_leaves leaf (Handed keyring) = sym (both_uses-right (leaf keyring).uses)
+shows_its_leaves leaf (Multi multi) = forest_shows leaf multi.value.1
 
 -- ---- whether they are steady
 

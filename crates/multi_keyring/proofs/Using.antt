@@ -31,7 +31,7 @@ pub both_uses-right : (k : Option (List KeyUse)) → both_uses k (Some []) ≡ k
 both_uses-right None = refl
 both_uses-right (Some ks) = ap Some (append-nil ks)
 
-all_uses-append : (os ps : List KeyringMeaning) → all_uses (os ++ ps) ≡ both_uses (all_uses os) (all_uses ps)
+pub all_uses-append : (os ps : List KeyringMeaning) → all_uses (os ++ ps) ≡ both_uses (all_uses os) (all_uses ps)
 all_uses-append [] ps = sym (both_uses-left (all_uses ps))
 all_uses-append (o ∷ os) ps = ap (both_uses o.uses) (all_uses-append os ps) ∙ sym (both_uses-assoc o.uses (all_uses os) (all_uses ps))
 
