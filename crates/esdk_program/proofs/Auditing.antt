@@ -147,6 +147,7 @@ module _ (r : Run) (name : List ℕ) (unchanged : Unchanged) (world : World) (of
       file = ring_holds;
       read = audits.has.keyring.is;
       kept = audits.kept;
+      goes = audits.goes;
       rose = rose;
     }
 

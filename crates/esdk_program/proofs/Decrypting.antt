@@ -207,6 +207,7 @@ module _ (r : Run) (asked : DecryptWords) (unchanged : Unchanged) (world : World
     file = whole_file world.files asked.keyring has.file.bytes r.before.shelf r.after.shelf of.files has.file.file.read;
     read = has.file.is;
     kept = has.kept;
+    goes = has.goes;
     rose = rose;
   }
 
@@ -226,6 +227,7 @@ module _ (r : Run) (asked : DecryptWords) (unchanged : Unchanged) (world : World
           file = whole_file world.files asked.keyring all.1.bytes r.before.shelf r.after.shelf of.files all.1.file.read;
           read = all.1.is;
           kept = all.2.kept;
+          goes = all.2.goes;
           rose = rose;
         })))
       ]

@@ -65,6 +65,7 @@ module _ (r : Run) (asked : EncryptWords) (unchanged : Unchanged) (world : World
     file = whole_file world.files asked.keyring has.file.bytes r.before.shelf r.after.shelf of.files has.file.file.read;
     read = has.file.is;
     kept = has.kept;
+    goes = has.goes;
     rose = rose;
   }
 

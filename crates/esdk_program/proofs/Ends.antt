@@ -1,5 +1,5 @@
 -- How a run ended, and what it came to.
-use Rattle.std.proofs.Common.{◌≡◌, ◌⊎◌, ℕ, List, [], ◌++◌, length, Option, Some, None, sym, ap, subst, arith, inl, inr}
+use Rattle.std.proofs.Common.{◌≡◌, ◌⊎◌, ℕ, List, [], ◌++◌, length, Option, Some, None, refl, sym, ap, subst, arith, inl, inr}
 use Rattle.std.specs.Prelude.{IfSome}
 use Rattle.std.proofs.KnownBytes.{Appends-nil}
 use Rattle.std.proofs.lemmas.List.{take_all}
@@ -95,6 +95,6 @@ module _ (r : Run) (world : World) where
       → RunComesTo r world (done_with text (context_line context))
   tells text context gained (inl (inl shown)) =
       inl (record { code = shown.status; output = gained; report = gains_shown context r.code r.before.report r.after.report shown })
-  tells text context gained (inl (inr lost)) = inr (inr (inl (record { code = lost.status; output = gained; report = lost.front; rose = lost.rose })))
+  tells text context gained (inl (inr lost)) = inr (inr (inl (record { done = refl; code = lost.status; output = gained; report = lost.front; rose = lost.rose })))
   tells text context gained (inr lacking) =
       stops (done_with text (context_line context)) failures.Memory tt lacking (front_all r.before.output.written r.after.output.written text gained)

@@ -162,6 +162,7 @@ module _ (r : Run) (asked : ExtractWords) (unchanged : Unchanged) (world : World
     file = keyring_is t grown;
     read = t.has.file.is;
     kept = t.has.kept;
+    goes = t.has.goes;
     rose = rose;
   }
 

@@ -173,6 +173,7 @@ module _ (r : Run) (asked : ResealWords) (unchanged : Unchanged) (world : World)
         file = first_holds grown;
         read = first.has.file.is;
         kept = first.has.kept;
+        goes = first.has.goes;
         rose = rose;
       }
 

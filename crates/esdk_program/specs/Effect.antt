@@ -9,6 +9,7 @@ use Rattle.esdk_report.specs.Lines.{printed_line}
 use Rattle.esdk_report.specs.Report.{ReportGains, IsReported, failure_status, failure_line}
 use Rattle.esdk_report.specs.declared.failure.Failure.{Failure}
 use Rattle.esdk_report.specs.declared.failure.Failure.TheVariants as failures
+use Rattle.esdk_run.specs.Trees.{TreeGoes}
 use Rattle.esdk_program.specs.World.{Run, World}
 
 -- The status, and what the output and the report gain.
@@ -40,7 +41,8 @@ pub record DoesAll (r : Run) (e : Effect) : Type 0 where
 
 -- ---- or it was disturbed
 
--- A keyring of the tree that was read failed.
+-- A keyring failed: the tree that the world has in a file of some name is given back with its keys,
+-- and its count of faults rose.
 pub record KeyringFailed (r : Run) (world : World) : Type 0 where
   pub name : List ℕ
   pub bytes : List ℕ
@@ -49,6 +51,7 @@ pub record KeyringFailed (r : Run) (world : World) : Type 0 where
   pub file : world.files name ≡ Some bytes
   pub read : r.trees.read bytes ≡ Ok (tree ∷ [])
   pub kept : r.trees.kept ≡ Some left
+  pub goes : TreeGoes tree left
   pub rose : Rose tree.faults left.faults
 
 -- What this failure is about failed: a count of faults rose, or is worn. Memory may be wanting at
@@ -76,6 +79,7 @@ pub record IsStopped (r : Run) (world : World) (e : Effect) : Type 0 where
 
 -- A write of the report failed at the end. All was done but that, and the status is 4.
 pub record RunLosesReport (r : Run) (e : Effect) : Type 0 where
+  pub done : e.code ≡ 0
   pub code : r.code ≡ 4
   pub output : Appends r.before.output.written r.after.output.written e.output
   pub report : AppendsFront r.before.report.written r.after.report.written e.report
@@ -83,8 +87,8 @@ pub record RunLosesReport (r : Run) (e : Effect) : Type 0 where
 
 -- ---- both
 
--- The run was stopped; or its report was lost; or a keyring failed, and was passed over for
--- another: of `encrypt`, `decrypt` and `extract` that are done `Keeps` says what was written then.
+-- The run was stopped; or its report was lost; or a keyring failed: of `encrypt`, `decrypt` and
+-- `extract` that are done `Keeps` says what was written then.
 abbrev pub IsDisturbed : Run → World → Effect → Type 0
 IsDisturbed r world e = IsStopped r world e ⊎ RunLosesReport r e ⊎ KeyringFailed r world
 

@@ -86,14 +86,14 @@ pub record Keeps (r : Run) (unchanged : Unchanged) (time : Ticks) : Type 0 where
       + most_read no_limits (range_asked asked) bytes)
   -- ---- where a tree tells no keys, or a keyring failed
 
-  -- `encrypt`, once it is done: nothing was read but the keyring file and the whole input, and the
-  -- output gained the message of that, under the keys that the tree tells, or else under those that
-  -- its leaves went by, where they show these.
+  -- `encrypt`, once it is done: over this shelf nothing was read but the keyring file; the whole
+  -- input was, and the output gained the message of that, under the keys that the tree tells, or
+  -- else under those that its leaves went by, where they show these.
   pub sealed : On requests.Encrypt r.words
       (λ asked. r.code ≡ 0 → SealedWhatCame r.trees asked r.before r.after)
-  -- `decrypt`, once it is done: nothing was read but the keyring file and the whole input, which is
-  -- a whole message to who has the keys that the tree's leaves went by, where they show these,
-  -- whether one failed or not; and the output gained its content.
+  -- `decrypt`, once it is done: over this shelf nothing was read but the keyring file; the whole
+  -- input was, which is a whole message to who has the keys that the tree's leaves went by, where
+  -- they show these, whether one failed or not; and the output gained its content.
   pub opened : On requests.Decrypt r.words
       (λ asked. r.code ≡ 0 → OpenedWhatCame r.trees asked r.before r.after)
   -- `extract`, once it is done: the output gained the range of any bytes that agree with what the
@@ -113,9 +113,10 @@ pub record Keeps (r : Run) (unchanged : Unchanged) (time : Ticks) : Type 0 where
   -- ---- `batch`
 
   -- Over any objects, once it is reported, of any files that agree with what the reads gave each
-  -- job comes to what is said of it. Behind the job file and the keyring file the shelf was called
-  -- for the files of the jobs alone; the file of each job was finished once, for those who may read
-  -- it, behind all that was written into it, or the shelf failed and the job isn't done.
+  -- job comes to what is said of it. Behind the job file and the keyring file the shelf was told
+  -- what each job reads, and then called for the files of the jobs alone; the file of each job was
+  -- finished once, for those who may read it, behind all that was written into it, or the shelf
+  -- failed and the job isn't done.
   pub batched : On requests.Batch r.words
       (λ name. WasRun r.code → BatchedWhatCame r.trees name r.before r.after r.code)
   -- However it ends, no file that the shelf tells changed but those that jobs write.

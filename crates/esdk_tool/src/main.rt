@@ -3,10 +3,10 @@
 //! headers, and encrypts and decrypts many of them in one batch. It audits which keys open which
 //! messages, migrates a keyring file to version 2, and generates a message of a seed.
 //!
-//! The program is one call, `esdk_program::run_program`, over its words, its input, its two outputs,
-//! a shelf of files, an entropy, a clock and the keyrings that a keyring file may name; `main` makes
-//! the real ones, calls it by `run_over`, which says the same of just these, and ends with its
-//! status.
+//! The program is one call, `esdk_program::run_program`, over its words, its input, its two
+//! outputs, a shelf of files, an entropy, a clock and the keyrings that a keyring file may name;
+//! `main` makes the real ones, calls it by `run_over`, which says the same of just these, and ends
+//! with its status.
 #![tactic(auto)]
 
 ghost use Rattle.std.specs.Prelude.{◌≡◌, ◌<◌, ◌^◌, length, IfOk};
@@ -91,10 +91,10 @@ fn run_words<R: Sink>(rt: HostRuntime, report: &mut R) -> Result<Status, Failure
 }
 
 /// Runs the program over the real objects. Its clauses are those of `run_program` over just their
-/// types: what it made of the bytes that standard input gave, of those that the reads of files gave,
-/// of those that the generator gave, and of the moments that the clock gave, on what standard output
-/// took and in the calls of the shelf. Who wants to know what the program does reads `does` and
-/// `keeps`; `course` and `promises` tell what each failure leaves.
+/// types: what it made of the bytes that standard input gave, of those that the reads of files
+/// gave, of those that the generator gave, and of the moments that the clock gave, on what standard
+/// output took and in the calls of the shelf. Who wants to know what the program does reads `does`
+/// and `keeps`; `course` and `promises` tell what each failure leaves.
 fn run_over<R: Sink>(
     alloc: Global,
     words: &[Text],
