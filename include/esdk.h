@@ -57,9 +57,10 @@
  *     5000           Memory: memory ran out
  *     6001 to 6010   Q1 to Q10: the request, or the text, is refused
  * A code of family 2, and 4004, changes nothing: it is as if the call had not been made. Every
- * other error ends the session, but those of esdk_list and esdk_openers, which change nothing: from
- * then on each call that would go on answers ESDK_ENDED, and there remain esdk_take, esdk_error,
- * esdk_error_name, esdk_pairs, esdk_pair_key, esdk_pair_value, esdk_again, esdk_new and esdk_close.
+ * other error ends the session, but those of esdk_list, esdk_openers, esdk_span and esdk_range, which
+ * change nothing that a caller sees: from then on each call that would go on answers ESDK_ENDED, and
+ * there remain esdk_take, esdk_error, esdk_error_name, esdk_pairs, esdk_pair_key, esdk_pair_value,
+ * esdk_again, esdk_new and esdk_close.
  * docs/LINES.md says of each line what to do next. */
 #ifndef ESDK_H
 #define ESDK_H
@@ -321,7 +322,8 @@ int32_t esdk_openers(esdk_handle *handle, const uint8_t *message, size_t message
  *                &written);                            `handle` is set up, with the pairs that are given
  *
  * What comes is the text that a whole opening would give there, as far as the frames of the range are
- * right: each is opened after its tag was found right. Of the frames before them and behind them
+ * right, and as `front` and `part` are of one message: read both from a file that stays as it is.
+ * Each frame is opened after its tag was found right. Of the frames before them and behind them
  * nothing is said, nor whether the message is whole; but the tag of a frame holds its number, so that
  * none stands in another's place. */
 

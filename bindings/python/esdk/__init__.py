@@ -68,6 +68,9 @@ __all__ = [
 
 # No range begins behind so many bytes, or has more.
 _MOST_RANGE = 2**62
+# The bytes of a frame, and the required keys, where none are named.
+_FRAME = 4096
+_NO_KEYS: tuple[str, ...] = ()
 
 
 class Keyring:
@@ -123,8 +126,8 @@ def stream(
     keyring: Keyring,
     new_keyring: Optional[Keyring] = None,
     encryption_context: Optional[Mapping[str, str]] = None,
-    required_encryption_context_keys: Iterable[str] = (),
-    frame_length: int = 4096,
+    required_encryption_context_keys: Iterable[str] = _NO_KEYS,
+    frame_length: int = _FRAME,
     source_length: Optional[int] = None,
     max_encrypted_data_keys: Optional[int] = None,
     max_body_length: Optional[int] = None,
@@ -203,7 +206,7 @@ def decrypt_range(
     at: int,
     count: int,
     encryption_context: Optional[Mapping[str, str]] = None,
-    required_encryption_context_keys: Iterable[str] = (),
+    required_encryption_context_keys: Iterable[str] = _NO_KEYS,
     allow_uncommitted: bool = False,
 ) -> bytes:
     """`count` bytes of a message's text from byte `at` on, as far as there are any.
@@ -246,7 +249,7 @@ def list_header(message: Any, uncommitted: bool = False) -> str:
 
 def _at_once(mode: str, source: bytes, keyring: Keyring, words: dict[str, Any]) -> tuple[bytes, Header]:
     """What a stream of these words gives in all, by one call of the library."""
-    given = dict(words.pop("encryption_context", None) or {})
+    given = dict(words.pop("encryption_context", None) or {}) if words else {}
     session = keyring._sessions.take()
     try:
         _begin(session, mode, given, **words)
@@ -264,8 +267,8 @@ def _begin(
     context: dict[str, str],
     /,
     new_keyring: Optional[Keyring] = None,
-    required_encryption_context_keys: Iterable[str] = (),
-    frame_length: int = 4096,
+    required_encryption_context_keys: Iterable[str] = _NO_KEYS,
+    frame_length: int = _FRAME,
     source_length: Optional[int] = None,
     max_encrypted_data_keys: Optional[int] = None,
     max_body_length: Optional[int] = None,
@@ -274,7 +277,8 @@ def _begin(
     """Begins a message by the words of `stream`."""
     if (new_keyring is None) == (mode == "r"):
         raise TypeError("new_keyring has the keys that a message is resealed under, and no other mode has it")
-    session.context(context, required_encryption_context_keys)
+    if context or required_encryption_context_keys is not _NO_KEYS:
+        session.context(context, required_encryption_context_keys)
     max_keys, max_unit, length = 0, 0, ANY_LENGTH
     if max_encrypted_data_keys is not None:
         max_keys = _number("max_encrypted_data_keys", max_encrypted_data_keys, 1, 65535)
@@ -283,7 +287,8 @@ def _begin(
     if mode == "d":
         session.open(max_keys, max_unit, bool(allow_uncommitted))
         return
-    frame_length = _number("frame_length", frame_length, 1, 2**32 - 1)
+    if frame_length is not _FRAME:
+        frame_length = _number("frame_length", frame_length, 1, 2**32 - 1)
     if new_keyring is not None:
         session.reseal(new_keyring._file, frame_length, max_keys, max_unit, bool(allow_uncommitted))
         return

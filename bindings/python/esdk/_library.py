@@ -21,9 +21,11 @@ class Handle(ctypes.Structure):
     _fields_ = [("state", c_void_p), ("live", c_bool)]
 
 
-# A pointer is an address, which ctypes takes sooner than an object of a type: a handle's, a room's or a number's.
+# A pointer is an address, which ctypes takes sooner than an object of a type: a handle's, a room's or a number's. It takes a
+# length as soon, too, where that stands as one: both are numbers of 64 bits, and are passed alike.
 _HANDLE = c_void_p
-_BYTES = [c_void_p, c_size_t]
+_LENGTH = c_void_p
+_BYTES = [c_void_p, _LENGTH]
 _COUNTS = [c_void_p, c_void_p]
 _FUNCTIONS: dict[str, tuple[Any, list[Any]]] = {
     "esdk_abi": (c_uint32, []),
@@ -33,7 +35,7 @@ _FUNCTIONS: dict[str, tuple[Any, list[Any]]] = {
     "esdk_again": (c_int32, [_HANDLE]),
     "esdk_pair": (c_int32, [_HANDLE, *_BYTES, *_BYTES]),
     "esdk_require": (c_int32, [_HANDLE, *_BYTES]),
-    "esdk_seal": (c_int32, [_HANDLE, c_uint32, c_uint64, c_uint16]),
+    "esdk_seal": (c_int32, [_HANDLE, c_uint32, _LENGTH, c_uint16]),
     "esdk_open": (c_int32, [_HANDLE, c_uint16, c_uint64, c_bool]),
     "esdk_reseal": (c_int32, [_HANDLE, *_BYTES, c_uint32, c_uint16, c_uint64, c_bool]),
     "esdk_feed": (c_int32, [_HANDLE, *_BYTES, *_BYTES, *_COUNTS]),

@@ -12,6 +12,9 @@ from ._library import NOTHING, Handle, Lent, load
 from .errors import error_of
 
 _library = load()
+# Of each short message: here they are found sooner than in the library.
+_again, _close, _pairs = _library.esdk_again, _library.esdk_close, _library.esdk_pairs
+_seal, _open, _whole = _library.esdk_seal, _library.esdk_open, _library.esdk_whole
 
 # The longest line has a key of 65,535 bytes in it, and each of these may be written as six.
 _MOST_OF_LINE = 524288
@@ -33,8 +36,9 @@ class Session:
         self._handle = Handle()
         self._at = addressof(self._handle)
         self._written, self._waits = c_size_t(), c_size_t()
-        self._counts = addressof(self._written), addressof(self._waits)
+        self._written_at, self._waits_at = addressof(self._written), addressof(self._waits)
         self._room: Any = None
+        self._room_at = 0
         # So many bytes of it are text of a message that was opened.
         self._text_in_room = 0
         self._freed = False
@@ -49,20 +53,20 @@ class Session:
         """Frees what the library holds. It may be called again."""
         if not self._freed:
             self._freed = True
-            _library.esdk_close(self._at)
+            _close(self._at)
 
     def __del__(self) -> None:
         # Where __init__ failed early there is no handle; where the interpreter ends, no library.
-        if not getattr(self, "_freed", True) and _library is not None:
+        if not getattr(self, "_freed", True) and _close is not None:
             self.close()
 
     def again(self) -> bool:
         """Sets it up for another message, with nothing left of the last one. False where that can't be done."""
         self._waits.value = 0
         if self._text_in_room:
-            self.room().raw = bytes(self._text_in_room)
+            self._room.raw = bytes(self._text_in_room)
             self._text_in_room = 0
-        return not _library.esdk_again(self._at)
+        return not _again(self._at)
 
     def _judge(self, code: int) -> None:
         if code:
@@ -86,10 +90,14 @@ class Session:
 
     def seal(self, frame_length: int, length: int, max_keys: int) -> None:
         """Begins a message that is sealed. What it begins with waits, and `waits` doesn't know of it yet."""
-        self._judge(_library.esdk_seal(self._at, frame_length, length, max_keys))
+        code = _seal(self._at, frame_length, length, max_keys)
+        if code:
+            self._judge(code)
 
     def open(self, max_keys: int, max_unit: int, uncommitted: bool) -> None:
-        self._judge(_library.esdk_open(self._at, max_keys, max_unit, uncommitted))
+        code = _open(self._at, max_keys, max_unit, uncommitted)
+        if code:
+            self._judge(code)
 
     def reseal(self, file: bytes, frame_length: int, max_keys: int, max_unit: int, uncommitted: bool) -> None:
         """Begins a message that is opened, and sealed anew under the keys of this file. Nothing of that waits yet."""
@@ -98,26 +106,28 @@ class Session:
 
     def feed(self, address: Any, count: int, room: int = NOTHING, size: int = 0) -> None:
         """Takes a piece. The room, which lies apart from it, gets what it gives; what has no room waits."""
-        self._judge(_library.esdk_feed(self._at, address, count, room, size, *self._counts))
+        self._judge(_library.esdk_feed(self._at, address, count, room, size, self._written_at, self._waits_at))
 
     def finish(self, room: int = NOTHING, size: int = 0) -> None:
         """Says that no byte follows. The room gets what that gives; what has no room waits."""
-        self._judge(_library.esdk_finish(self._at, room, size, *self._counts))
+        self._judge(_library.esdk_finish(self._at, room, size, self._written_at, self._waits_at))
 
     def take(self, address: Any, room: int) -> int:
         """Hands out of what waits, and answers how many bytes that were."""
-        self._judge(_library.esdk_take(self._at, address, room, *self._counts))
+        self._judge(_library.esdk_take(self._at, address, room, self._written_at, self._waits_at))
         return self._written.value
 
     def whole(self, source: bytes, opens: bool) -> bytes:
         """What a whole text or a whole message gives; where that is refused, nothing of it. `opens`: that is a text."""
         room = self._room or self.room()
-        self._judge(_library.esdk_whole(self._at, source, len(source), room, _ROOM, *self._counts))
-        written = self._written.value
+        code = _whole(self._at, source, len(source), self._room_at, _ROOM, self._written_at, self._waits_at)
+        if code:
+            self._judge(code)
+        written, waits = self._written.value, self._waits.value
         if opens:
-            self._text_in_room = _ROOM if self._waits.value else written
+            self._text_in_room = _ROOM if waits else written
         front: bytes = room[:written]
-        return front + self._rest() if self._waits.value else front
+        return front + self._rest() if waits else front
 
     def _rest(self) -> bytes:
         """All that waits."""
@@ -130,6 +140,7 @@ class Session:
         """Its own room, which is no caller's. A slice of it is bytes."""
         if self._room is None:
             self._room = ctypes.create_string_buffer(_ROOM)
+            self._room_at = addressof(self._room)
         return self._room
 
     @property
@@ -144,7 +155,7 @@ class Session:
 
     def whole_context(self) -> Optional[dict[str, str]]:
         """The context of the message that is opened or resealed, once its header was unlocked."""
-        count = _library.esdk_pairs(self._at)
+        count = _pairs(self._at)
         if count < 0:
             return None
         return {self._text(_library.esdk_pair_key, at): self._text(_library.esdk_pair_value, at) for at in range(count)}

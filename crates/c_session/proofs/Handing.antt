@@ -79,20 +79,28 @@ given_agrees message left piece at count agrees most is none =
       λ empty. agrees.1 (none (sym long ∙ ap (length {A = ℕ}) empty)),
     )
 
--- one read more agrees
+-- one call more agrees, of which each message that has the bytes does
+call_agrees : (h : HandedPart) (old new : List ShelfCall) (call : ShelfCall) → AgreesSoFar h old
+    → ((message : List ℕ) → HasHanded h message → AgreesWithCall the_message message call) → new ≡ old ++ call ∷ [] → AgreesSoFar h new
+call_agrees h old new call so agrees is = record {
+  made = so.made ++ call ∷ [];
+  so_far = is ∙ ap (λ (calls : List ShelfCall). calls ++ call ∷ []) so.so_far ∙ append_assoc (notes_of h) so.made (call ∷ []);
+  agree = λ message has.
+      All-append (AgreesWithCall the_message message) so.made (call ∷ []) (so.agree message has)
+      (All-cons (AgreesWithCall the_message message) call [] (agrees message has) (All-nil (AgreesWithCall the_message message)));
+}
+
+-- so does a read
 pub read_agrees : (h : HandedPart) (old new : List ShelfCall) (name left room : List ℕ) (at count : ℕ) → AgreesSoFar h old → FillsRoom left room count
     → ((message : List ℕ) → HasHanded h message → AgreesWithRead message at left) → new ≡ old ++ reads name at (take count room) ∷ []
     → AgreesSoFar h new
-read_agrees h old new name left room at count so gives agrees is = record {
-  made = so.made ++ reads name at (take count room) ∷ [];
-  so_far = is ∙ ap (λ (calls : List ShelfCall). calls ++ reads name at (take count room) ∷ []) so.so_far
-      ∙ append_assoc (notes_of h) so.made (reads name at (take count room) ∷ []);
-  agree = λ message has.
-      All-append (AgreesWithCall the_message message) so.made (reads name at (take count room) ∷ []) (so.agree message has)
-      (All-cons (AgreesWithCall the_message message) (reads name at (take count room)) []
-      (λ same. given_agrees message left (take count room) at count (agrees message has) gives.most gives.front gives.none)
-      (All-nil (AgreesWithCall the_message message)));
-}
+read_agrees h old new name left room at count so gives agrees is =
+    call_agrees h old new (reads name at (take count room)) so
+    (λ message has same. given_agrees message left (take count room) at count (agrees message has) gives.most gives.front gives.none) is
+
+-- and an announcement, which agrees with each message
+pub announce_agrees : (h : HandedPart) (old new : List ShelfCall) (name : List ℕ) → AgreesSoFar h old → new ≡ old ++ announces name ∷ [] → AgreesSoFar h new
+announce_agrees h old new name so is = call_agrees h old new (announces name) so (λ message has. tt) is
 
 -- nothing was read yet
 pub agrees_first : (h : HandedPart) (calls : List ShelfCall) → calls ≡ notes_of h → AgreesSoFar h calls

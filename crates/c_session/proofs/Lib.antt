@@ -9,4 +9,5 @@ mod Sealings
 mod Sessions
 mod Trays
 mod Trees
+mod Waitings
 mod Wholes

@@ -36,7 +36,7 @@ ReadsTree bytes (Ok tree) = (length bytes ≤ 1048576)
     × (tree_of (wraps_of raw_meaning) bytes [] ≡ Ok (forest (tree ∷ [])))
 ReadsTree bytes (Err (reasons.File refusal)) =
     ((1048576 < length bytes) × (refusal ≡ FileTooLong))
-    ⊎ (tree_of (wraps_of raw_meaning) bytes [] ≡ Err refusal)
+    ⊎ ((length bytes ≤ 1048576) × (tree_of (wraps_of raw_meaning) bytes [] ≡ Err refusal))
 ReadsTree bytes (Err reasons.Memory) = ⊤
 ReadsTree bytes (Err reason) = ⊥
 

@@ -105,6 +105,7 @@ impl<'a> Shelf for MessageShelf<'a> {
     }
 
     fn will_read(&mut self, name: &str) -> Result<(), AllocError> {
+        self.calls.see(&Call::Announce(name));
         Ok(())
     }
 
