@@ -164,7 +164,15 @@ END
     ended "an audit of a message that the whole file doesn't open" 1
     want "it is named with its line" holds report 'esdk-audit: not opened by the whole file: ./whole/b.esdk: esdk: M16 Commitment'
     want "what the leaves open is told as before" [ "$(head -n 2 output | tr '\n' ';')" = 'leaf 1: needed for none of 3 messages;leaf 2: needed for 2 of 3 messages;' ]
-    sort words >sorted
+    mkdir -p bin
+    printf '#!/bin/sh\nexit 127\n' >bin/iconv
+    chmod +x bin/iconv
+    mv words words-of-one
+    run env PATH="$work/bin:$PATH" ESDK="$work/strangers" "$share/esdk-audit" key whole
+    ended "that audit, without iconv" 1
+    want "it is named there, too" holds report 'esdk-audit: not opened by the whole file: ./whole/b.esdk: esdk: M16 Commitment'
+    rm bin/iconv
+    sort words-of-one >sorted
     for name in a b c; do echo "extract --keyring=key --from=./whole/$name.esdk --at=0 --count=0 -- -a=b tenant:=acme"; done >due
     want "the whole file is asked with the pairs, once a message" cmp sorted due
 }
@@ -255,4 +263,24 @@ refused_audits() {
     run env ESDK=/missing "$share/esdk-audit" key audited
     ended "an audit without a program" 70
     want "nothing is left of audits" nothing_left audited closed no-messages
+}
+
+# Where a tool fails in the middle, what isn't known isn't taken for good: no status 0.
+audits_that_fail() {
+    mkdir -p unknown bin
+    make_message key unknown/a.esdk
+    printf '#!/bin/sh\n[ "$1" != audit ] || { printf "message 1 opened-by none\\nleaf 1 needed-for none\\n"; exit 7; }\n' >closing
+    printf '#!/bin/sh\ncase $* in *bare=0*) exit 1 ;; esac\nexec "%s" "$@"\n' "$(command -v awk)" >bin/awk
+    chmod +x closing bin/awk
+    run env PATH="$work/bin:$PATH" ESDK="$work/closing" "$share/esdk-audit" key unknown
+    ended "an audit of a message that no key opens, whose name isn't told" 1
+    rm bin/awk
+    printf '#!/bin/sh\ncase $* in */names) exit 1 ;; esac\nexec "%s" "$@"\n' "$(command -v sort)" >bin/sort
+    chmod +x bin/sort
+    run env PATH="$work/bin:$PATH" "$share/esdk-audit" key unknown
+    ended "an audit whose names can't be sorted" 4
+    rm bin/sort
+    run "$share/esdk-audit" key unknown
+    ended "an audit without such a failure" 0
+    rm -r unknown
 }

@@ -89,6 +89,8 @@ gone_files() {
     want "they are moved" holds output '0 done, 1 kept as they were, 0 not done; left out, since they are no files: 1; moved to .esdk-tree.gone, since their files are gone: 2'
     want "and aren't in their places" [ ! -e kept/a.esdk -a ! -e kept/deep/c.esdk ]
     want "and are under their paths" [ "$(cd kept/.esdk-tree.gone/* && find . -type f | sort)" = "$(printf './a.esdk\n./deep/c.esdk')" ]
+    run "$share/esdk-tree" encrypt key live kept
+    want "they aren't told as leftovers" holds output '0 done, 1 kept as they were, 0 not done; left out, since they are no files: 1'
     run "$share/esdk-tree" decrypt key kept/.esdk-tree.gone/* again
     want "what was moved away opens" holds again/deep/c deep/c
     run "$share/esdk-tree" verify key kept
@@ -224,6 +226,94 @@ lists_of_messages() {
     ended "a list that can't be made" 4
     want "nothing is left of lists" [ -z "$(find . -name 'names.*')" ]
     rm -rf listed told names
+}
+
+# The keyring file becomes no list, and a list that can't be made whole leaves the older one.
+lists_that_fail() {
+    mkdir -p listed bin
+    for name in one two three; do echo text >"listed/$name"; done
+    cp key ring
+    ln -s ring link-to-ring
+    for file in ring ./ring link-to-ring; do
+        run "$share/esdk-tree" encrypt --list "$file" ring listed told
+        ended "a list that is the keyring file, as $file" 2
+        want "the keyring file stays" cmp ring key
+        want "and nothing is made" [ ! -e told ]
+    done
+    echo older.esdk >names
+    printf '#!/bin/sh\nexit 1\n' >bin/sort
+    chmod +x bin/sort
+    run env PATH="$work/bin:$PATH" "$share/esdk-tree" encrypt --list names key listed told
+    ended "a list that can't be sorted" 4
+    want "the older list stays" holds names older.esdk
+    rm -rf listed told names ring link-to-ring bin/sort
+}
+
+# A message that gets another name, as `cp -al` gives it, isn't newer by that than a change of its file under an old time.
+times_behind_links() {
+    mkdir constant
+    for name in 1 2; do echo "text $name" >"constant/$name"; done
+    touch -d @1000000000 constant/*
+    run "$share/esdk-tree" encrypt key constant fixed
+    case $(stat -c %W fixed/1.esdk) in
+        0 | -)
+            echo "messages with other names: not tried, since this disk doesn't tell when a file was made"
+            rm -r constant fixed
+            return 0
+            ;;
+    esac
+    mv constant/1 moved
+    mv constant/2 constant/1
+    mv moved constant/2
+    sleep 0.1
+    cp -al fixed monday
+    for words in '' '-- --frame 4096'; do
+        run "$share/esdk-tree" encrypt key constant fixed $words
+        want "files that changed before their messages were linked are done again $words" holds output '2 done, 0 kept as they were, 0 not done'
+        run "$share/esdk-tree" encrypt key constant fixed
+        want "and then no more $words" holds output '0 done, 2 kept as they were, 0 not done'
+        run "$share/esdk-tree" decrypt key fixed again
+        want "what comes back is what they have now $words" diff -r constant again
+        rm -r again fixed
+        cp -al monday fixed
+    done
+    run "$share/esdk-tree" decrypt key monday again
+    want "and the older generation is as it was" holds again/1 'text 1'
+    rm -r constant fixed monday again
+}
+
+# Where nothing tells whether a name is UTF-8, its file isn't done, since it would be bound by another pair.
+names_without_iconv() {
+    mkdir -p spelled bin
+    echo text | tee spelled/plain >spelled/é
+    printf '#!/bin/sh\nexit 127\n' >bin/iconv
+    chmod +x bin/iconv
+    run env PATH="$work/bin:$PATH" "$share/esdk-tree" encrypt key spelled told
+    ended "a name of other letters, without iconv" 1
+    want "it is named" holds report "esdk-tree: not done: ??: iconv doesn't tell whether its name is UTF-8"
+    want "and the other one is done" holds output '1 done, 0 kept as they were, 1 not done'
+    rm bin/iconv
+    run "$share/esdk-tree" encrypt key spelled told
+    run "$share/esdk-tree" verify key told
+    want "with iconv all is done, and opens" holds output '2 done, 0 kept as they were, 0 not done'
+    rm -r spelled told
+}
+
+# What takes a file's name once the names are listed: a pipe isn't waited for, and a link isn't followed.
+files_that_turn() {
+    mkdir -p turning bin
+    echo secret >secret
+    for how in mkfifo 'ln -s ../secret'; do
+        echo text >turning/odd
+        printf '#!/bin/sh\nrm -f turning/odd\n%s turning/odd\nexec "%s"\n' "$how" "$(command -v nproc)" >bin/nproc
+        chmod +x bin/nproc
+        run env PATH="$work/bin:$PATH" timeout 60 "$share/esdk-tree" encrypt key turning turned
+        ended "a file that turns by $how" 1
+        want "it is named" holds report "esdk-tree: not done: odd: it can't be read"
+        want "and has no message" [ ! -e turned/odd.esdk ]
+        rm turning/odd
+    done
+    rm -r turning turned secret bin/nproc
 }
 
 # A refusal is one line with the word that is wrong.

@@ -61,6 +61,19 @@ reports() {
     ended "no report" 4
 }
 
+# A job file that another call makes meanwhile stays.
+job_files_meanwhile() {
+    mkdir meanwhile counting
+    echo a >meanwhile/a
+    printf '#!/bin/sh\necho mine >jobs-1.json\nexec "%s" "$@"\n' "$(command -v awk)" >counting/awk
+    chmod +x counting/awk
+    printf 'a\0' >names
+    run_in meanwhile env PATH="$work/counting:$PATH" "$share/esdk-jobs" encrypt ../key out jobs <names
+    ended "a job file that comes meanwhile" 4
+    want "it stays" holds meanwhile/jobs-1.json mine
+    rm -r meanwhile counting
+}
+
 # A file that is there isn't replaced, unless it is asked for: a batch replaces it also where a job fails.
 names_there() {
     mkdir -p there/out/below
