@@ -16,7 +16,6 @@ const LONG: usize = 65536;
 
 /// Bytes that were gathered, and weren't handed on yet: at most 69,632. A contract sees the list of
 /// them.
-#[derive(Drop)]
 pub struct GatheredBytes {
     bytes: Vec<u8>,
 }
@@ -30,6 +29,15 @@ impl Model for GatheredBytes {
     ghost view = { λ g. g.bytes.items };
 
     ghost invariant = { λ g. most_gathered ≤ vec_capacity g.bytes };
+}
+
+/// Zeros are written over all of their room before its memory is given back.
+impl Drop for GatheredBytes {
+    fn drop(self) {
+        let GatheredBytes { mut bytes } = self;
+        bytes.truncate(0);
+        let _zeros = bytes.resize(ROOM, 0);
+    }
 }
 
 impl GatheredBytes {
