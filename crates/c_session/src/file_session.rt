@@ -46,9 +46,16 @@ pub(crate) enum Kept {
 }
 
 /// A session over the tree of a keyring file. Where the file wasn't read it has ended.
-#[derive(Drop)]
 pub struct FileSession {
     pub(crate) kept: Kept,
+}
+
+/// A session is dropped here, so that no crate above proves again how its parts are.
+impl Drop for FileSession {
+    fn drop(self) {
+        let FileSession { kept } = self;
+        drop(kept);
+    }
 }
 
 impl FileSession {
