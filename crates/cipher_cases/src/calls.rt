@@ -1,7 +1,7 @@
 //! What each call answers.
 
 use crate::bytes::{blocks_of, sized};
-use crate::shown::{put, put_text};
+use crate::shown::{put, put_both, put_text};
 use crate::wrong::Wrong;
 use aes_core::Key256;
 use gcm_core::{open_in_place, seal_in_place};
@@ -14,44 +14,56 @@ const MOST: usize = 1_048_576;
 
 /// One block, four, eight or sixteen, enciphered by the function that takes so many.
 pub fn ecb(out: &mut String, key: &[u8], blocks: &[u8]) -> Result<(), Wrong> {
-    let key = Key256::new(sized(key)?);
-    match blocks_of(blocks)? {
-        [a] => put(out, &key.block(*a)),
-        [a, b, c, d] => put(out, key.blocks4([*a, *b, *c, *d]).as_flattened()),
-        [a, b, c, d, e, f, g, h] => {
-            let eight = key.blocks8([*a, *b, *c, *d, *e, *f, *g, *h]);
-            put(out, eight.as_flattened())
-        }
-        blocks => match blocks.as_chunks() {
-            ([sixteen], []) => put(out, key.blocks16(*sixteen).as_flattened()),
-            _ => Err(Wrong("neither one block, four, eight nor sixteen")),
-        },
+    let (key, blocks) = (sized(key)?, blocks_of(blocks)?);
+    put_enciphered(out, &Key256::new(key), blocks)
+}
+
+fn put_enciphered(out: &mut String, key: &Key256, blocks: &[[u8; 16]]) -> Result<(), Wrong> {
+    if let [block] = blocks {
+        return put(out, &key.block(*block));
+    }
+    if let ([four], []) = blocks.as_chunks() {
+        return put(out, key.blocks4(*four).as_flattened());
+    }
+    if let ([eight], []) = blocks.as_chunks() {
+        return put(out, key.blocks8(*eight).as_flattened());
+    }
+    match blocks.as_chunks() {
+        ([sixteen], []) => put(out, key.blocks16(*sixteen).as_flattened()),
+        _ => Err(Wrong("neither one block, four, eight nor sixteen")),
     }
 }
 
 /// Sixteen counter blocks, from that of the count on, each enciphered: eight, and eight behind them
 /// with the page that the first eight left.
 pub fn counters(out: &mut String, key: &[u8], iv: &[u8], count: &[u8]) -> Result<(), Wrong> {
-    let (key, iv) = (Key256::new(sized(key)?), sized(iv)?);
-    let count = u32::from_be_bytes(*sized(count)?);
+    let (key, iv, count) = (sized(key)?, sized(iv)?, sized(count)?);
+    put_counters(out, &Key256::new(key), iv, u32::from_be_bytes(*count))
+}
+
+fn put_counters(out: &mut String, key: &Key256, iv: &[u8; 12], count: u32) -> Result<(), Wrong> {
     let mut page = key.page(iv, count);
     let first = key.counters8(iv, count, &mut page);
     let second = key.counters8(iv, count.wrapping_add(8), &mut page);
-    put(out, first.as_flattened())?;
-    put_text(out, " ")?;
-    put(out, second.as_flattened())
+    put_both(out, first.as_flattened(), second.as_flattened())
 }
 
 /// Thirty-two counter blocks: sixteen, and sixteen behind them with the page that these left.
 pub fn wide_counters(out: &mut String, key: &[u8], iv: &[u8], count: &[u8]) -> Result<(), Wrong> {
-    let (key, iv) = (Key256::new(sized(key)?), sized(iv)?);
-    let count = u32::from_be_bytes(*sized(count)?);
+    let (key, iv, count) = (sized(key)?, sized(iv)?, sized(count)?);
+    put_wide_counters(out, &Key256::new(key), iv, u32::from_be_bytes(*count))
+}
+
+fn put_wide_counters(
+    out: &mut String,
+    key: &Key256,
+    iv: &[u8; 12],
+    count: u32,
+) -> Result<(), Wrong> {
     let mut page = key.page(iv, count);
     let first = key.counters16(iv, count, &mut page);
     let second = key.counters16(iv, count.wrapping_add(16), &mut page);
-    put(out, first.as_flattened())?;
-    put_text(out, " ")?;
-    put(out, second.as_flattened())
+    put_both(out, first.as_flattened(), second.as_flattened())
 }
 
 /// The hash of blocks, taken one by one.
@@ -91,9 +103,7 @@ pub fn seal(
     let (key, iv) = (sized(key)?, sized(iv)?);
     let mut text = text.to_vec(*out.allocator())?;
     let tag = seal_in_place(&Key256::new(key), iv, first, second, text.as_mut_slice());
-    put(out, &text)?;
-    put_text(out, " ")?;
-    put(out, &tag)
+    put_both(out, &text, &tag)
 }
 
 /// Whether the tag is the right one, and what stands in the text then.

@@ -33,21 +33,43 @@ mod shown;
 mod wrong;
 
 use line::answer;
-use std::io;
+use std::io::Read;
 use std::process::ExitCode;
 use wrong::Wrong;
 
-fn main(rt: HostRuntime) -> io::Result<ExitCode> {
-    let mut number = 0u64;
-    for line in rt.lines(rt.alloc()) {
-        number = number.saturating_add(1);
-        match answer(rt.alloc(), line?.as_str()) {
-            Ok(text) => println!(rt; "{text}")?,
-            Err(Wrong(what)) => {
-                println!(rt; "line {number}: {what}")?;
-                return Ok(ExitCode::FAILURE);
-            }
+/// Answers the lines of standard input.
+fn main(rt: HostRuntime) -> ExitCode {
+    let mut number = 0;
+    match answer_input(&rt, &mut number) {
+        Ok(()) => ExitCode::SUCCESS,
+        Err(Wrong(what)) => {
+            let _ = println!(rt; "line {number}: {what}");
+            ExitCode::FAILURE
         }
     }
-    Ok(ExitCode::SUCCESS)
+}
+
+/// Answers the lines of the input. The number is left at the line that was taken last.
+fn answer_input(rt: &(impl Input + Print + AllocGlobal), number: &mut u64) -> Result<(), Wrong> {
+    let mut bytes = Vec::new(rt.alloc());
+    if rt.reader().read_to_end(&mut bytes).is_err() {
+        return Err(Wrong("the input can't be read"));
+    }
+    let Ok(text) = str::from_utf8(&bytes) else {
+        return Err(Wrong("not UTF-8"));
+    };
+    for line in text.lines() {
+        *number = number.saturating_add(1);
+        print_answer(rt, line)?;
+    }
+    Ok(())
+}
+
+/// Prints what a line's call answers.
+fn print_answer(rt: &(impl Print + AllocGlobal), line: &str) -> Result<(), Wrong> {
+    let answer = answer(rt.alloc(), line)?;
+    match rt.println(answer.as_str()) {
+        Ok(()) => Ok(()),
+        Err(_) => Err(Wrong("the output failed")),
+    }
 }

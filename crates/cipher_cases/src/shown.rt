@@ -19,6 +19,13 @@ pub fn put(out: &mut String, bytes: &[u8]) -> Result<(), Wrong> {
     put_digits(out, bytes)
 }
 
+/// Puts bytes, a space and further bytes.
+pub fn put_both(out: &mut String, first: &[u8], second: &[u8]) -> Result<(), Wrong> {
+    put(out, first)?;
+    put_text(out, " ")?;
+    put(out, second)
+}
+
 fn put_digits(out: &mut String, bytes: &[u8]) -> Result<(), Wrong> {
     for byte in bytes {
         write!(out, "{byte:02x}")?;
