@@ -21,7 +21,8 @@
  *     It is not copied: once one copy was closed, the other is a use of freed memory. It is in one
  *     call at a time. Two threads may use two handles at once, which share nothing. Nothing in a
  *     handle belongs to a thread, so that it may go to another one between two calls: that is
- *     proved.
+ *     proved. A fork makes a copy: of a message that is sealed or resealed, one of the two processes
+ *     alone goes on. Both would seal under one key with the same IVs, and that gives the texts away.
  *  2. A pointer with a length is to so many bytes, and it is not NULL, also where the length is 0
  *     (ESDK_NOTHING is such a pointer). `handle`, `written`, `waits`, `whole` and the numbers of
  *     esdk_span are not NULL.
@@ -244,8 +245,9 @@ int32_t esdk_finish(esdk_handle *handle, uint8_t *room, size_t room_len, size_t 
 /* The rest of a message at once: esdk_feed with all of it, and then esdk_finish. At ESDK_OK it hands
  * out, and all is there where *waits is 0. At any other code it hands nothing out: the room is as it
  * was, *written is 0, and what the calls would have handed out waits, which esdk_take hands out;
- * none of it counts. Text has no room of more than its message's length; a message of n bytes of
- * text has at the most its header and 40 bytes for each frame.
+ * none of it counts. A text is no longer than its message; a message of n bytes of text has these,
+ * its header, and at the most 40 bytes for each frame, of which there are at the most
+ * n / frame_length + 1.
  *
  * The codes of esdk_feed and of esdk_finish. */
 int32_t esdk_whole(esdk_handle *handle, const uint8_t *rest, size_t rest_len, uint8_t *room,

@@ -226,6 +226,76 @@ func TestASourceThatFails(t *testing.T) {
 	}
 }
 
+// Takes so many bytes at a time, and gives no error; or it panics.
+type shortSink struct {
+	most   int
+	panics bool
+}
+
+func (s *shortSink) Write(piece []byte) (int, error) {
+	if s.panics {
+		s.panics = false
+		panic("a bad day")
+	}
+	if len(piece) > s.most {
+		return s.most, nil
+	}
+	return len(piece), nil
+}
+
+func TestASinkThatTakesLess(t *testing.T) {
+	writer, err := Sealing{}.Writer(ringOf(t, "first", 0), &shortSink{most: 100})
+	if err != nil {
+		t.Fatal(err)
+	}
+	_, err = writer.Write(make([]byte, 9000))
+	if err != io.ErrShortWrite || writer.Finish() != io.ErrShortWrite || writer.Close() != ErrNotFinished {
+		t.Error(err)
+	}
+}
+
+// Whether a call panics.
+func panics(call func()) (did bool) {
+	defer func() { did = recover() != nil }()
+	call()
+	return false
+}
+
+type panickingSource struct{ reads int }
+
+func (s *panickingSource) Read(room []byte) (int, error) {
+	s.reads++
+	switch s.reads {
+	case 1:
+		return len(room), nil
+	case 2:
+		panic("a bad day")
+	}
+	return 0, io.EOF
+}
+
+func TestWhoGoesOnBehindAPanicGetsNoWholeMessage(t *testing.T) {
+	ring := ringOf(t, "first", 0)
+	writer, err := Sealing{}.Writer(ring, &shortSink{most: pieceSize, panics: true})
+	if err != nil {
+		t.Fatal(err)
+	}
+	if !panics(func() { _, _ = writer.Write(make([]byte, 9000)) }) || writer.Finish() == nil || writer.Close() == nil {
+		t.Error("a writer")
+	}
+	reader, err := Sealing{}.Reader(ring, &panickingSource{})
+	if err != nil {
+		t.Fatal(err)
+	}
+	if !panics(func() { _, _ = io.ReadAll(reader) }) {
+		t.Error("a source that panics")
+	}
+	if _, err := io.ReadAll(reader); err == nil {
+		t.Error("a reader")
+	}
+	reader.Close()
+}
+
 func TestManyAtOnce(t *testing.T) {
 	ring := ringOf(t, "first", 0)
 	var all sync.WaitGroup

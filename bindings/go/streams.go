@@ -1,17 +1,23 @@
 package esdk
 
-import "io"
+import (
+	"errors"
+	"io"
+)
 
 const (
 	pieceSize = 65536
 	mostReads = 100
 )
 
+// It stays where a source or a sink panics: what it gave, or was to take, is lost.
+var errPanicked = errors.New("esdk: the source or the sink panicked")
+
 // Reader reads a message that is sealed or resealed, or a text that is opened, of what is read from a source.
 //
 // What is read of a text counts only once Read gave io.EOF, which says that the message was whole. Each part of the text was
 // found right before it is handed out. At a fault the text of the frames before it is handed out, and then each call gives
-// the error. What the source answers ends the stream, too.
+// the error. What the source answers ends the stream, too, and so does its panic. One goroutine uses it at a time.
 type Reader struct {
 	session *session
 	source  io.Reader
@@ -47,6 +53,7 @@ func (r *Reader) Read(room []byte) (int, error) {
 
 // One or two calls of the library, with the next piece and, where it comes, with the end.
 func (r *Reader) step() {
+	r.stop = errPanicked
 	count, err := 0, error(nil)
 	for reads := 0; count == 0 && err == nil; reads++ {
 		if reads == mostReads {
@@ -71,7 +78,8 @@ func (r *Reader) step() {
 
 // Writer writes into a sink the message of what is written to it, or the text, or the new message, of the message that is.
 //
-// What is in the sink counts only once Finish gave no error. After an error each call gives one.
+// What is in the sink counts only once Finish gave no error. After an error, or a panic of the sink, each call gives an error. One
+// goroutine uses it at a time.
 type Writer struct {
 	session  *session
 	sink     io.Writer
@@ -126,10 +134,11 @@ func (w *Writer) Close() error {
 
 // Puts what waits into the sink, and then answers what the library did.
 func (w *Writer) put(done error) error {
+	w.stop = errPanicked
 	for w.session.waits > 0 {
 		count, err := w.session.take(w.room)
 		if err == nil {
-			_, err = w.sink.Write(w.room[:count])
+			err = writeAll(w.sink, w.room[:count])
 		}
 		if err != nil {
 			w.stop = err
@@ -138,4 +147,13 @@ func (w *Writer) put(done error) error {
 	}
 	w.stop = done
 	return done
+}
+
+// A sink that takes less and gives no error loses the rest.
+func writeAll(sink io.Writer, piece []byte) error {
+	count, err := sink.Write(piece)
+	if err == nil && count != len(piece) {
+		err = io.ErrShortWrite
+	}
+	return err
 }

@@ -105,7 +105,7 @@ class Keyring:
         """
         session = self._sessions.take()
         try:
-            session.context(dict(encryption_context or {}), ())
+            session.context(_pairs(encryption_context), ())
             with Lent(message) as lent:
                 return session.openers(*lent)
         finally:
@@ -136,8 +136,9 @@ def stream(
     """A file object: in mode "e" of the message of the source, in mode "d" of the text of that message, and in mode "r"
     of a new message of its text, under the keys of `new_keyring`.
 
-    `source` is bytes-like, and isn't to be changed meanwhile, or a file object. In modes "e" and "r": `frame_length` is 1
-    to 4,294,967,295. In mode "e" with `source_length` no longer text is taken. In modes "d" and "r":
+    `source` is bytes-like, and isn't to be changed meanwhile, or a file object: what has `read` is read from where it
+    stands, to where that gives b"". In modes "e" and "r": `frame_length` is 1 to 4,294,967,295. In mode "e" with
+    `source_length` no longer text is taken, but shorter text is. In modes "d" and "r":
     `max_encrypted_data_keys` and `max_body_length`, the most bytes of a frame or a single block, are those of the message
     that is read, and `allow_uncommitted` opens messages of format 1.0, too. A key that is required isn't stored in a
     message that is sealed; whoever opens or reseals it gives its pair. Messages of strangers want both limits.
@@ -145,7 +146,7 @@ def stream(
     if mode not in ("e", "encrypt", "d", "decrypt", "r", "reseal"):
         raise ValueError(f'the mode is "e", "d" or "r", and not {mode!r}')
     mode = mode[0]
-    context = dict(encryption_context or {})
+    context = _pairs(encryption_context)
     session = Session(keyring._file)
     try:
         _begin(
@@ -211,7 +212,8 @@ def decrypt_range(
 ) -> bytes:
     """`count` bytes of a message's text from byte `at` on, as far as there are any.
 
-    `source` is bytes-like, or a file object with `seek`, of which the header is read and the frames that hold the range.
+    `source` is bytes-like, or a file object with `seek`, in which the message begins where it stands; it stands there again
+    afterwards. The header is read and the frames that hold the range.
     Each of these is opened after its tag was found right; of the others nothing is said, nor whether the message is
     whole. A range that begins at the end of the text or behind it is b"", or 1010 or 1018. It is all in memory: ask for
     parts of a long one.
@@ -219,7 +221,7 @@ def decrypt_range(
     at, count = _number("at", at, 0, _MOST_RANGE), _number("count", count, 0, _MOST_RANGE)
     session = keyring._sessions.take()
     try:
-        session.context(dict(encryption_context or {}), required_encryption_context_keys)
+        session.context(_pairs(encryption_context), required_encryption_context_keys)
         return take(session, Message(source), at, count, bool(allow_uncommitted))
     finally:
         keyring._sessions.give_back(session)
@@ -249,7 +251,7 @@ def list_header(message: Any, uncommitted: bool = False) -> str:
 
 def _at_once(mode: str, source: bytes, keyring: Keyring, words: dict[str, Any]) -> tuple[bytes, Header]:
     """What a stream of these words gives in all, by one call of the library."""
-    given = dict(words.pop("encryption_context", None) or {}) if words else {}
+    given = _pairs(words.pop("encryption_context", None)) if words else {}
     session = keyring._sessions.take()
     try:
         _begin(session, mode, given, **words)
@@ -295,6 +297,15 @@ def _begin(
     if source_length is not None:
         length = _number("source_length", source_length, 0, ANY_LENGTH - 1)
     session.seal(frame_length, length, max_keys)
+
+
+def _pairs(given: Optional[Mapping[str, str]]) -> dict[str, str]:
+    """Its own copy. A list of pairs may have a key twice, of which `dict` would keep the last."""
+    if given is None:
+        return {}
+    if type(given) is not dict and not isinstance(given, Mapping):
+        raise TypeError(f"an encryption context is a mapping of keys to values, and not of type {type(given).__name__}")
+    return dict(given)
 
 
 def _number(name: str, value: int, least: int, most: int) -> int:

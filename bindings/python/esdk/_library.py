@@ -57,7 +57,8 @@ def place() -> str:
     """Where the library is: what ESDK_LIBRARY names (a file, or its folder), beside this file, or where the loader looks."""
     named = os.environ.get("ESDK_LIBRARY")
     if named:
-        folder = pathlib.Path(named)
+        # A name without a folder would be looked for where the loader looks.
+        folder = pathlib.Path(named).absolute()
         return str(folder / NAME if folder.is_dir() else folder)
     beside = pathlib.Path(__file__).with_name(NAME)
     return str(beside) if beside.exists() else NAME

@@ -3,6 +3,7 @@
 from __future__ import annotations
 
 import io
+import os
 import threading
 from collections.abc import Iterator
 from dataclasses import dataclass
@@ -46,12 +47,20 @@ class Pieces:
             address, count = self._address, min(self._left, PIECE)
             self._address, self._left = address + count, self._left - count
             return address, count
-        piece = self._read(PIECE)
-        if piece is None:
-            raise BlockingIOError("the source has no bytes now, and isn't at its end")
-        if type(piece) is not bytes:
-            piece = memoryview(piece).tobytes()
+        try:
+            piece = came(self._read(PIECE))
+        except StopIteration as error:
+            # A loop over the stream would take it for the end.
+            raise RuntimeError("the source raised StopIteration, and gave no end") from error
         return piece, len(piece)
+
+
+def came(piece: Any) -> bytes:
+    """What a file object's `read` gave."""
+    if piece is None:
+        raise BlockingIOError("the source has no bytes now, and isn't at its end")
+    held: bytes = piece if type(piece) is bytes else memoryview(piece).tobytes()
+    return held
 
 
 class Stream(io.RawIOBase):
@@ -62,17 +71,20 @@ class Stream(io.RawIOBase):
     the end says. A `with` that is left before that, and by no exception, raises NotFinished; `close` doesn't.
 
     Where the message has a fault, the text of the frames before it is handed out, and then MessageError is raised, by
-    each later call as well. `read()` of everything gives all or raises. What the source raises ends the stream, too,
-    but for BlockingIOError, behind which one may go on. Of a message that is resealed the same holds; what was read of
-    one with a fault is no whole message.
+    each later call as well. `read()` of everything gives all or raises. Any other exception within a call ends the
+    stream, too, but for BlockingIOError out of `header`, of `read` of a size or of the loop, behind which one may go on: the
+    other calls, and io.BufferedReader, lose what they took before it. Of a message that is resealed the same holds; what
+    was read of one with a fault is no whole message.
 
-    One thread uses it at a time, and another one gets a RuntimeError. The source isn't closed.
+    One thread uses it at a time, for a whole call, and another one gets a RuntimeError. So does the child of a fork: both
+    processes would seal under one key with the same IVs. It isn't copied. The source isn't closed.
     """
 
     def __init__(self, session: Session, pieces: Pieces, context: Optional[dict[str, str]]) -> None:
         """The context is that of a message that is sealed; else the message that is read has one."""
         super().__init__()
         self._in_use = threading.Lock()
+        self._process = os.getpid()
         self._session = session
         self._context = context
         self._said_end = False
@@ -85,7 +97,7 @@ class Stream(io.RawIOBase):
 
     def readinto(self, room: Any) -> int:
         """Fills the room, and less of it only at the end or before a fault. 0 says that the end was reached."""
-        with self._used(), Lent(room, writable=True) as (address, size):
+        with Lent(room, writable=True) as (address, size), self._used(goes_on=False):
             return self._put(address, size, own=False) if size else 0
 
     def _put(self, address: int, size: int, own: bool) -> int:
@@ -102,6 +114,9 @@ class Stream(io.RawIOBase):
         return count
 
     def _fill(self, address: int, size: int, own: bool) -> int:
+        if self._fault is not None and not isinstance(self._fault, EsdkError):
+            # What waits stands behind bytes that are lost.
+            raise self._fault
         count = 0
         while count < size:
             if self._session.waits:
@@ -123,43 +138,64 @@ class Stream(io.RawIOBase):
 
     def readall(self) -> bytes:
         """All that follows, or the exception."""
-        return b"".join(self)
+        with self._used(goes_on=False):
+            return b"".join(iter(lambda: self._part(PIECE), b""))
 
     def read(self, size: Optional[int] = -1) -> bytes:
         """So many bytes, or fewer at the end or before a fault; all of them where no size is given."""
-        if self.closed:
-            raise ValueError("the stream is closed")
         if size is None or size < 0:
             return self.readall()
-        parts: list[bytes] = []
-        while size > 0:
-            wanted = min(size, PIECE)
-            try:
-                part = self._part(wanted)
-            except (EsdkError, BlockingIOError):
-                # The next call raises it.
-                if parts:
+        with self._used():
+            parts: list[bytes] = []
+            while size > 0:
+                wanted = min(size, PIECE)
+                try:
+                    part = self._part(wanted)
+                except (EsdkError, BlockingIOError):
+                    # The next call raises it.
+                    if parts:
+                        break
+                    raise
+                parts.append(part)
+                size -= len(part)
+                if len(part) < wanted:
                     break
-                raise
-            parts.append(part)
-            size -= len(part)
-            if len(part) < wanted:
-                break
-        return b"".join(parts)
+            return b"".join(parts)
+
+    def readline(self, size: Optional[int] = -1) -> bytes:
+        """A line, or so many bytes of it, byte by byte: io.BufferedReader over a stream is sooner done."""
+        with self._used(goes_on=False):
+            return self._line(size)
+
+    def readlines(self, hint: Optional[int] = -1) -> list[bytes]:
+        """Lines, where a loop over the stream has pieces: all of them, or those with so many bytes."""
+        lines: list[bytes] = []
+        count, most = 0, hint if hint and hint > 0 else float("inf")
+        with self._used(goes_on=False):
+            while count < most and (line := self._line(-1)):
+                lines.append(line)
+                count += len(line)
+        return lines
+
+    def _line(self, size: Optional[int]) -> bytes:
+        line = bytearray()
+        while (size is None or size < 0 or len(line) < size) and line[-1:] != b"\n" and (byte := self._part(1)):
+            line += byte
+        return bytes(line)
 
     def _part(self, size: int) -> bytes:
         """So many bytes, or fewer."""
-        with self._used():
-            part, address = unfilled(size)
-            count = self._put(address, size, own=True)
-            return part if count == size else part[:count]
+        part, address = unfilled(size)
+        count = self._put(address, size, own=True)
+        return part if count == size else part[:count]
 
     def __iter__(self) -> Iterator[bytes]:
         return self
 
     def __next__(self) -> bytes:
         """A piece of at most 65,536 bytes, and not a line: io.BufferedReader over a stream gives lines."""
-        piece = self._part(PIECE)
+        with self._used():
+            piece = self._part(PIECE)
         if not piece:
             raise StopIteration
         return piece
@@ -178,10 +214,13 @@ class Stream(io.RawIOBase):
                 raise self._fault
             return Header(context)
 
-    def _used(self) -> _Use:
+    def _used(self, goes_on: bool = True) -> _Use:
+        """`goes_on`: nothing is lost where the source has no bytes for now."""
         if self.closed:
             raise ValueError("the stream is closed")
-        return _Use(self._in_use)
+        if self._process != os.getpid():
+            raise RuntimeError("the stream is that of the process which forked")
+        return _Use(self, goes_on)
 
     def _goes_on(self, room: int = NOTHING, size: int = 0) -> Optional[int]:
         """One call of the library, with the next piece or with the end; None where nothing is left to be called.
@@ -204,10 +243,13 @@ class Stream(io.RawIOBase):
     def close(self) -> None:
         """Frees what the library holds, keys among it. It says nothing of what was read."""
         if not self.closed:
-            with _Use(self._in_use):
+            with _Use(self, goes_on=True):
                 self._session.close()
                 self._pieces.forget()
                 super().close()
+
+    def __reduce_ex__(self, protocol: Any) -> Any:
+        raise TypeError("a stream isn't copied: both would take bytes of one session")
 
     def __enter__(self) -> Stream:
         if self.closed:
@@ -222,14 +264,21 @@ class Stream(io.RawIOBase):
 
 
 class _Use:
-    """Keeps a second thread out, which would be inside the library with the same handle."""
+    """A call. It keeps a second thread out, which would be inside the library with the same handle or take bytes from its
+    middle, and ends the stream where an exception leaves it: what it took on its way is lost.
+    """
 
-    def __init__(self, lock: threading.Lock) -> None:
-        self._lock = lock
+    def __init__(self, stream: Stream, goes_on: bool) -> None:
+        self._stream = stream
+        self._goes_on = goes_on
 
     def __enter__(self) -> None:
-        if not self._lock.acquire(blocking=False):
+        if not self._stream._in_use.acquire(blocking=False):
             raise RuntimeError("the stream is in another call")
 
-    def __exit__(self, *_: object) -> None:
-        self._lock.release()
+    def __exit__(self, kind: Any, fault: Optional[BaseException], *_: object) -> None:
+        if not isinstance(fault, (BlockingIOError, type(None))):
+            self._stream._fault = fault
+        elif fault is not None and not self._goes_on:
+            self._stream._fault = NotFinished("the source had no bytes within a call, which lost what it had read")
+        self._stream._in_use.release()

@@ -81,7 +81,9 @@ class RequestError(EsdkError):
 
 
 class NotFinished(Exception):
-    """A `with` was left before the stream's end was reached: what was read counts for nothing."""
+    """A `with` was left before the stream's end was reached, or a call lost what it had read: what was read counts for
+    nothing.
+    """
 
 
 _FAMILIES = {

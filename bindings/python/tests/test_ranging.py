@@ -1,7 +1,9 @@
 """A range of a message's text, over a library. What is expected are parts of the texts of vectors/."""
 
 import io
+import mmap
 import random
+import tempfile
 import unittest
 
 import esdk
@@ -50,6 +52,36 @@ class Ranging(unittest.TestCase):
         came = esdk.decrypt_range(source=source, keyring=RING, at=500_500, count=2000)
         self.assertEqual(came, text[500_500:502_500])
         self.assertLessEqual(source.count, (1 << 16) + 3 * 1032 + 8)
+
+    def test_files_of_each_kind(self):
+        text = random.Random(9).randbytes(100_000)
+        with tempfile.TemporaryFile() as file:
+            file.write(b"before" + sealed(text))
+            file.flush()
+            for source in (file, mmap.mmap(file.fileno(), 0)):
+                source.seek(6)
+                for at in (50_000, 0, 99_999):
+                    came = esdk.decrypt_range(source=source, keyring=RING, at=at, count=9000)
+                    self.assertEqual(came, text[at : at + 9000])
+                self.assertIn(self.fails(source, 2**62, 1)[0], (1010, 1018))
+
+    def test_a_source_without_bytes_for_now(self):
+        """It isn't at its end, and the message isn't cut."""
+        message = sealed(bytes(100_000))
+        for pause in (1, 2, 70, 75):
+            source, calls = Reads(message), iter(range(1, 200))
+            source.read = lambda size: None if next(calls) == pause else Reads.read(source, size)
+            with self.assertRaises(BlockingIOError):
+                esdk.decrypt_range(source=source, keyring=RING, at=50_000, count=9000)
+        self.assertRaises(TypeError, esdk.decrypt_range, source=io.StringIO("a text"), keyring=RING, at=0, count=1)
+
+    def test_a_message_that_ends_behind_a_frame(self):
+        message = sealed(bytes(range(100)), frame_length=10)
+        frames = len(message) - 10 * 42 - 8
+        cut = message[: frames + 4 * 42]
+        self.assertEqual(esdk.decrypt_range(source=cut, keyring=RING, at=30, count=10), bytes(range(30, 40)))
+        for at, count in ((30, 11), (40, 1), (0, 100)):
+            self.assertEqual(self.fails(cut, at, count), (1010, "M10 Truncated"))
 
     def test_a_long_header(self):
         message = sealed(b"hello" * 100, encryption_context={"a": "x" * 60000, "b": "y" * 5000}, frame_length=10)

@@ -65,6 +65,7 @@ pub enum Kind {
 }
 
 impl Error {
+    pub(crate) const NOT_NOW: i32 = 2002;
     pub(crate) const OTHER_ABI: i32 = 2007;
 
     pub(crate) fn new(code: i32, line: String) -> Error {

@@ -7,6 +7,7 @@
 use crate::error::Error;
 use crate::raw::{self, Handle};
 use crate::{Context, Span};
+use std::process;
 
 /// The longest text of a pair.
 const MOST_OF_TEXT: usize = 65_535;
@@ -25,6 +26,8 @@ pub(crate) struct Parts<'a> {
 pub(crate) struct Session {
     handle: Handle,
     waits: usize,
+    /// The process that made it. A fork would seal under the same key, with the same IVs.
+    process: u32,
 }
 
 // SAFETY: nothing in a handle belongs to a thread, so that it may go to another one between two calls (esdk.h, "What a caller
@@ -40,7 +43,7 @@ impl Drop for Session {
 impl Session {
     pub(crate) fn new(file: &[u8]) -> Result<Session, Error> {
         check()?;
-        let mut session = Session { handle: Handle::new(), waits: 0 };
+        let mut session = Session { handle: Handle::new(), waits: 0, process: process::id() };
         let code = unsafe { raw::esdk_new(&mut session.handle, file.as_ptr(), file.len()) };
         session.judge(code)?;
         Ok(session)
@@ -104,8 +107,16 @@ impl Session {
         self.judge(code)
     }
 
+    fn is_own(&self) -> Result<(), Error> {
+        if self.process == process::id() {
+            return Ok(());
+        }
+        Err(Error::new(Error::NOT_NOW, "the session is that of the process which forked".into()))
+    }
+
     /// Takes the whole piece; what it gives waits.
     pub(crate) fn feed(&mut self, piece: &[u8]) -> Result<(), Error> {
+        self.is_own()?;
         let (mut none, mut written) = ([], 0);
         let code = unsafe {
             raw::esdk_feed(
@@ -123,6 +134,7 @@ impl Session {
 
     /// Says that no byte follows; what that gives waits.
     pub(crate) fn finish(&mut self) -> Result<(), Error> {
+        self.is_own()?;
         let (mut none, mut written) = ([], 0);
         let code = unsafe {
             raw::esdk_finish(&mut self.handle, none.as_mut_ptr(), 0, &mut written, &mut self.waits)

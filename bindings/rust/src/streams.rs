@@ -18,7 +18,8 @@ enum Stop {
 ///
 /// **What is read of a text counts only once `read` gave 0**, which says that the message was whole. Each part of the
 /// text was found right before it is handed out. At a fault the text of the frames before it is handed out, and then
-/// each call gives the error. What the source answers ends the stream, too, but for `Interrupted` and `WouldBlock`.
+/// each call gives the error. What the source answers ends the stream, too, but for `Interrupted` and `WouldBlock`, and so
+/// does its panic.
 pub struct Reader<R> {
     session: Session,
     source: R,
@@ -44,24 +45,25 @@ impl<R: Read> Reader<R> {
 
     /// One call of the library, with the next piece or with the end.
     fn step(&mut self) -> io::Result<()> {
+        // This stays where the source panics: what it gave is lost.
+        self.stop = Some(Stop::Outside(ErrorKind::Other));
         let count = match self.source.read(&mut self.piece) {
             Ok(count) => count,
             Err(error) => {
-                if !matches!(error.kind(), ErrorKind::Interrupted | ErrorKind::WouldBlock) {
-                    self.stop = Some(Stop::Outside(error.kind()));
-                }
+                self.stop = match error.kind() {
+                    ErrorKind::Interrupted | ErrorKind::WouldBlock => None,
+                    kind => Some(Stop::Outside(kind)),
+                };
                 return Err(error);
             }
         };
-        let done = if count == 0 {
-            self.stop = Some(Stop::End);
-            self.session.finish()
-        } else {
-            self.session.feed(&self.piece[..count])
+        let piece = &self.piece[..count];
+        let done = if count == 0 { self.session.finish() } else { self.session.feed(piece) };
+        self.stop = match done {
+            Err(error) => Some(Stop::Refused(error)),
+            Ok(()) if count == 0 => Some(Stop::End),
+            Ok(()) => None,
         };
-        if let Err(error) = done {
-            self.stop = Some(Stop::Refused(error));
-        }
         Ok(())
     }
 }
@@ -88,7 +90,7 @@ impl<R: Read> Read for Reader<R> {
 /// Writes into a sink the message of what is written to it, or the text, or the new message, of the message that is.
 ///
 /// **What is in the sink counts only once `finish` gave Ok.** Without it a message that is sealed isn't whole, and of a
-/// text nobody said that it is. After an error each call gives one.
+/// text nobody said that it is. After an error, or a panic of the sink, each call gives an error.
 pub struct Writer<W> {
     session: Session,
     sink: W,
@@ -116,7 +118,7 @@ impl<W: Write> Writer<W> {
         self.flush()
     }
 
-    /// The sink, with what was written into it.
+    /// The sink, with what was written into it, which is nothing whole where `finish` didn't give Ok.
     pub fn into_sink(self) -> W {
         self.sink
     }
@@ -132,6 +134,8 @@ impl<W: Write> Writer<W> {
 
     /// Puts what waits into the sink, and then answers what the library did.
     fn put(&mut self, done: Result<(), Error>) -> io::Result<()> {
+        // This stays where the sink panics: what it was to take is lost.
+        let stop = self.stop.replace(Stop::Outside(ErrorKind::Other));
         while self.session.waits() {
             let count = self.session.take(&mut self.room);
             if let Err(error) = self.sink.write_all(&self.room[..count]) {
@@ -139,6 +143,7 @@ impl<W: Write> Writer<W> {
                 return Err(error);
             }
         }
+        self.stop = stop;
         done.map_err(|error| {
             self.stop = Some(Stop::Refused(error.clone()));
             error.into()
@@ -155,7 +160,11 @@ impl<W: Write> Write for Writer<W> {
         Ok(piece.len())
     }
 
+    /// Flushes the sink. Of what was written here, a frame that isn't full stays behind until `finish`.
     fn flush(&mut self) -> io::Result<()> {
-        self.sink.flush()
+        match self.stop {
+            None | Some(Stop::End) => self.sink.flush(),
+            _ => self.goes_on(),
+        }
     }
 }

@@ -2,6 +2,7 @@
 
 use esdk::{Error, Keyring, Kind, Opening, Sealing, Span, list_header, span};
 use std::io::{self, Cursor, Read, Seek, SeekFrom, Write};
+use std::panic::{self, AssertUnwindSafe};
 use std::path::PathBuf;
 use std::{fs, thread};
 
@@ -152,6 +153,90 @@ fn a_source_that_fails_gives_no_whole_message() {
         let error = io::copy(&mut reader, &mut io::sink()).unwrap_err();
         assert_eq!(error.kind(), io::ErrorKind::ConnectionReset);
     }
+}
+
+/// A source and a sink, of which one call panics.
+struct Panicking<T>(T, usize);
+
+impl<T> Panicking<T> {
+    fn call(&mut self) -> &mut T {
+        self.1 = self.1.wrapping_sub(1);
+        assert_ne!(self.1, 0, "a bad day");
+        &mut self.0
+    }
+}
+
+impl<R: Read> Read for Panicking<R> {
+    fn read(&mut self, room: &mut [u8]) -> io::Result<usize> {
+        self.call().read(room)
+    }
+}
+
+impl<W: Write> Write for Panicking<W> {
+    fn write(&mut self, piece: &[u8]) -> io::Result<usize> {
+        self.call().write(piece)
+    }
+
+    fn flush(&mut self) -> io::Result<()> {
+        self.0.flush()
+    }
+}
+
+fn caught<T>(call: impl FnOnce() -> io::Result<T>) -> bool {
+    panic::catch_unwind(AssertUnwindSafe(call)).is_err()
+}
+
+#[test]
+fn who_goes_on_behind_a_panic_gets_no_whole_message() {
+    let text = [7; 200_000];
+    let mut reader = Sealing::new().reader(&ring(), Panicking(&text[..], 2)).unwrap();
+    assert!(caught(|| io::copy(&mut reader, &mut io::sink())));
+    assert!(io::copy(&mut reader, &mut io::sink()).is_err());
+    let mut writer = Sealing::new().writer(&ring(), Panicking(Vec::new(), 2)).unwrap();
+    assert!(caught(|| writer.write_all(&text)));
+    assert!(writer.write(b"x").is_err() && writer.flush().is_err() && writer.finish().is_err());
+    let mut writer = Sealing::new().writer(&ring(), Panicking(Vec::new(), 1)).unwrap();
+    assert!(caught(|| writer.finish()));
+    assert!(writer.flush().is_err() && writer.finish().is_err());
+}
+
+#[test]
+fn a_sink_that_fails_stays_failed() {
+    let mut room = [0; 5000];
+    let mut writer = Sealing::new().writer(&ring(), &mut room[..]).unwrap();
+    assert_eq!(writer.write_all(&[7; 60_000]).unwrap_err().kind(), io::ErrorKind::WriteZero);
+    for error in [writer.flush().unwrap_err(), writer.write(b"x").unwrap_err(), writer.finish().unwrap_err()] {
+        assert_eq!(error.kind(), io::ErrorKind::WriteZero);
+    }
+    let mut writer = Sealing::new().writer(&ring(), Vec::new()).unwrap();
+    writer.write_all(b"hello").unwrap();
+    writer.flush().unwrap();
+    writer.finish().unwrap();
+    writer.flush().unwrap();
+}
+
+extern "C" {
+    fn fork() -> i32;
+    fn waitpid(child: i32, status: *mut i32, options: i32) -> i32;
+    fn _exit(status: i32) -> !;
+}
+
+#[test]
+fn the_child_of_a_fork_goes_on_with_no_message() {
+    let mut reader = Sealing::new().reader(&ring(), io::repeat(7).take(100_000)).unwrap();
+    let (mut front, mut status) = ([0; 1000], 0);
+    reader.read_exact(&mut front).unwrap();
+    // SAFETY: the child calls the reader, and ends.
+    unsafe {
+        let child = fork();
+        if child == 0 {
+            _exit(if io::copy(&mut reader, &mut io::sink()).is_err() { 7 } else { 1 });
+        }
+        assert_eq!((waitpid(child, &mut status, 0), status >> 8), (child, 7));
+    }
+    let mut message = front.to_vec();
+    reader.read_to_end(&mut message).unwrap();
+    assert!(Opening::new().all(&ring(), &message).unwrap().0 == [7; 100_000]);
 }
 
 #[test]
