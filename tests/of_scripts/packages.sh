@@ -118,6 +118,10 @@ choices() {
     choose "$1" v3
     ended "choose where the command isn't a link" 70
     want "choose replaces no file" holds "$1/bin/esdk" "somebody's own"
+    ln -sf "somebody's own" "$1/bin/esdk"
+    choose "$1" v3
+    ended "choose where the command is somebody's link" 70
+    want "choose replaces no such link" [ "$(readlink "$1/bin/esdk")" = "somebody's own" ]
 }
 
 # What dpkg runs once the files are there, on such a processor: configured CPU WORD..
