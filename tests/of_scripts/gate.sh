@@ -24,7 +24,7 @@ make_gate() {
     cp "$top/.ci/run" gate/.ci
     make_check tools/checks
     cp "$top/tools/checks" gate/tools
-    for check in tests/scripts tests/outside tests/wide tests/library docs/try_pages vectors/make.py docs/pictures/make docs/trusted with-tools/shellcheck with-tools/mandoc; do
+    for check in tests/scripts tests/outside tests/wide tests/library tests/secrets docs/try_pages vectors/make.py docs/pictures/make docs/trusted with-tools/shellcheck with-tools/mandoc; do
         make_check "$check"
     done
     make_library_maker
@@ -33,7 +33,7 @@ make_gate() {
 echo "rt \$*" >>"$work/checked"
 . "$work/gate-does"
 END
-    for tool in strace cc gcc objcopy jq python3; do
+    for tool in strace cc gcc objcopy valgrind jq python3; do
         printf '#!/bin/sh\nexit 0\n' >"gate/with-tools/$tool"
     done
     chmod +x with-gate/rt gate/with-tools/*
@@ -54,7 +54,7 @@ END
 gate() {
     : >checked
     gate_says "$@"
-    run env -u ESDK -u ESDK_LIBRARY BEHIND_CI=1 PATH="$work/with-gate:$work/gate/with-tools:$PATH" gate/.ci/run
+    run env -u ESDK -u ESDK_LIBRARY -u BEHIND_CI PATH="$work/with-gate:$work/gate/with-tools:$PATH" gate/.ci/run
 }
 
 # The last line is this one: last LINE
@@ -64,14 +64,14 @@ gate_runs() {
     make_gate
     gate 0 '5 passed, 0 failed'
     ended "the gate" 0
-    want "the gate counts the checks" last '14 passed, 0 failed'
+    want "the gate counts the checks" last '15 passed, 0 failed'
     want "the gate shows what rt said" grep -qx 'rt: something proved' output
     want "rt ci, with no more words, comes first" [ "$(head -n 1 checked)" = 'rt ci' ]
     want "each check is run over the program that was built" [ "$(cut -d ' ' -f 1,2 checked | tr -s ' \n' ' ')" = \
-        "rt ci tests/scripts tests/outside tools/library --behind-ci tests/library docs/try_pages vectors/make.py --check docs/pictures/make --check docs/trusted --check with-tools/shellcheck esdk with-tools/mandoc -T " ]
-    want "over that program alone" [ "$(grep -c " $work/gate/crates/esdk_tool/out/esdk_tool\$" checked)" -eq 10 ]
+        "rt ci tests/scripts tests/outside tools/library --behind-ci tests/library tests/secrets docs/try_pages vectors/make.py --check docs/pictures/make --check docs/trusted --check with-tools/shellcheck esdk with-tools/mandoc -T " ]
+    want "over that program alone" [ "$(grep -c " $work/gate/crates/esdk_tool/out/esdk_tool\$" checked)" -eq 11 ]
     want "the program is newer than its sources then" [ gate/crates/esdk_tool/out/esdk_tool -nt gate/.ci/run ]
-    want "each check stands under its name" [ "$(grep -c '^== ' output)" -eq 9 ]
+    want "each check stands under its name" [ "$(grep -c '^== ' output)" -eq 10 ]
     for status in 1 2 130; do
         gate "$status" '4 passed, 1 failed'
         ended "the gate where rt ci fails" "$status"
@@ -80,35 +80,36 @@ gate_runs() {
     done
 }
 
-# A library that isn't made is a failure of the check that is over it. Where nobody asks for one, none is made.
+# A library that isn't made is a failure of the check that is over it. Where it is to be left out, none is made.
 library_unmade() {
     echo 70 >ends/made
     gate 0 '5 passed, 0 failed'
     rm ends/made
     ended "the gate without a library" 1
     want "the gate without a library names the check" grep -qx "FAILED: tests/library" output
-    want "the gate without a library counts it" last '13 passed, 1 failed'
-    want "the gate without a library tries none, and all else" [ "$(grep -c '^tests/library' checked)/$(wc -l <checked)" = 0/10 ]
+    want "the gate without a library counts it" last '14 passed, 1 failed'
+    want "the gate without a library tries none, and all else" [ "$(grep -c '^tests/library' checked)/$(wc -l <checked)" = 0/11 ]
     : >checked
-    run env -u ESDK -u ESDK_LIBRARY -u BEHIND_CI PATH="$work/with-gate:$work/gate/with-tools:$PATH" gate/.ci/run
-    ended "the gate that isn't asked for a library" 0
-    want "the gate that isn't asked for a library says so" grep -qx 'skipped: tests/library: no library' output
-    want "the gate that isn't asked for a library makes none" [ "$(grep -c '^t[a-z]*/library' checked)" -eq 0 ]
-    want "the gate that isn't asked for a library counts the others" last '13 passed, 0 failed'
+    run env -u ESDK -u ESDK_LIBRARY BEHIND_CI= PATH="$work/with-gate:$work/gate/with-tools:$PATH" gate/.ci/run
+    ended "the gate that leaves the library out" 0
+    want "the gate that leaves the library out says so" grep -qx 'skipped: tests/library: no library' output
+    want "the gate that leaves the library out leaves the ciphers out, too" grep -qx 'skipped: tests/secrets: no ciphers' output
+    want "the gate that leaves the library out makes none" [ "$(grep -c '^t[a-z]*/library' checked)" -eq 0 ]
+    want "the gate that leaves the library out counts the others" last '13 passed, 0 failed'
     run env -u BEHIND_CI ESDK_LIBRARY=here ESDK="$work/gate/crates/esdk_tool/out/esdk_tool" PATH="$work/gate/with-tools:$PATH" gate/tools/checks
     want "the checks by hand try the library that is named" [ "$(grep -o '^t[a-z]*/library' checked)" = tests/library ]
 }
 
 # Each check, failing alone: the others are run, and it is named.
 failing_checks() {
-    for check in tests/scripts tests/outside tests/library docs/try_pages vectors/make.py docs/pictures/make docs/trusted shellcheck; do
+    for check in tests/scripts tests/outside tests/library tests/secrets docs/try_pages vectors/make.py docs/pictures/make docs/trusted shellcheck; do
         echo 3 >"ends/$(basename "$check")"
         gate 0 '5 passed, 0 failed'
         rm "ends/$(basename "$check")"
         ended "the gate where $check fails" 1
-        want "the gate where $check fails: the others are run" [ "$(wc -l <checked)" -eq 11 ]
+        want "the gate where $check fails: the others are run" [ "$(wc -l <checked)" -eq 12 ]
         want "the gate where $check fails: it is named" grep -qx "FAILED: $check" output
-        want "the gate where $check fails: it is counted" last '13 passed, 1 failed'
+        want "the gate where $check fails: it is counted" last '14 passed, 1 failed'
     done
     library_unmade
     printf '#!/bin/sh\necho "mandoc: %s/docs/esdk.1:1:2: STYLE: referenced manual not found: Xr esdk-into 1"\nexit 1\n' "$work" >gate/with-tools/mandoc
@@ -117,12 +118,12 @@ failing_checks() {
     printf '#!/bin/sh\necho "mandoc: %s/docs/esdk.1:1:2: WARNING: missing section"\nexit 2\n' "$work" >gate/with-tools/mandoc
     gate 0 '5 passed, 0 failed'
     ended "the gate where a page has a fault" 1
-    want "the gate where a page has a fault: it is counted" last '13 passed, 1 failed'
+    want "the gate where a page has a fault: it is counted" last '14 passed, 1 failed'
     make_check with-tools/mandoc
     for said in 'no count' '5 passed, 0 failed (low and the crates below alone: not the gate)'; do
         gate 0 "$said"
         ended "the gate where rt gives no count: $said" 1
-        want "the gate where rt gives no count: $said: that is a failure" last '9 passed, 1 failed'
+        want "the gate where rt gives no count: $said: that is a failure" last '10 passed, 1 failed'
     done
 }
 
@@ -137,7 +138,7 @@ END
     chmod +x gate/tools/choose gate/esdk
     : >checked
     gate_says 0 '5 passed, 0 failed'
-    run env -u ESDK -u ESDK_LIBRARY -u BEHIND_CI WIDE="${4-}" PATH="$work/with-gate:$work/gate/with-tools:$PATH" gate/.ci/run
+    run env -u ESDK -u ESDK_LIBRARY BEHIND_CI= WIDE="${4-}" PATH="$work/with-gate:$work/gate/with-tools:$PATH" gate/.ci/run
     rm gate/tools/choose gate/esdk
 }
 
@@ -170,18 +171,18 @@ lacking_tools() {
     for name in bash sh env cat tee tail grep sed awk mktemp rm touch chmod dirname basename readlink; do
         ln -s "$(command -v "$name")" few/
     done
-    for tool in strace cc gcc objcopy jq python3 shellcheck mandoc; do
+    for tool in strace cc gcc objcopy valgrind jq python3 shellcheck mandoc; do
         mv "gate/with-tools/$tool" gate/lacking
         : >checked
-        run env -u ESDK -u ESDK_LIBRARY BEHIND_CI=1 PATH="$work/with-gate:$work/gate/with-tools:$work/few" gate/.ci/run
+        run env -u ESDK -u ESDK_LIBRARY -u BEHIND_CI PATH="$work/with-gate:$work/gate/with-tools:$work/few" gate/.ci/run
         ended "the gate without $tool" 0
         want "the gate without $tool says so" grep -q "^skipped: .*: no $tool\$" output
         want "the gate without $tool counts what was skipped" grep -q '^[1-9] skipped: ' output
-        want "the gate without $tool counts all others" last "$((5 + 10 - $(grep -c '^skipped: ' output))) passed, 0 failed"
+        want "the gate without $tool counts all others" last "$((5 + 11 - $(grep -c '^skipped: ' output))) passed, 0 failed"
         mv gate/lacking "gate/with-tools/$tool"
     done
     printf '#!/bin/sh\n[ "$1" != -c ]\n' >gate/with-tools/python3
-    run env -u ESDK -u ESDK_LIBRARY BEHIND_CI=1 PATH="$work/with-gate:$work/gate/with-tools:$PATH" gate/.ci/run
+    run env -u ESDK -u ESDK_LIBRARY -u BEHIND_CI PATH="$work/with-gate:$work/gate/with-tools:$PATH" gate/.ci/run
     want "the gate without Python's package says so" [ "$(grep -c '^skipped: .*: no cryptography$' output)" -eq 3 ]
     printf 'echo "5 passed, 0 failed"\n' >gate-does
     rm gate/crates/esdk_tool/out/esdk_tool
