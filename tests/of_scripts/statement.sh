@@ -3,7 +3,7 @@
 
 make_statement() {
     mkdir statement
-    (cd "$top" && tar -cf - crates.txt docs/trusted docs/statement docs/AUDIT.md docs/PROOFS.md docs/TRUSTED.md crates/*/specs crates/*/src) |
+    (cd "$top" && tar -cf - crates.txt docs/trusted docs/statement docs/AUDIT.md docs/CALLING.md docs/PROOFS.md docs/TRUSTED.md crates/*/specs crates/*/src) |
         tar -xf - -C statement
     # The guide counts the lines of the file that is changed here.
     sed -i 's/Aes.antt` ([0-9]*)/Aes.antt`/' statement/docs/AUDIT.md
@@ -85,6 +85,12 @@ stale_statements() {
     run statement/docs/trusted --check
     ended "what docs/AUDIT.md quotes and no source has" 1
     want "what docs/AUDIT.md quotes and no source has is said" grep -q 'docs/AUDIT.md quotes what no file of specs/ has' report
+    cp "$top/docs/AUDIT.md" statement/docs
+    sed -i 's/OpensWholeBytes no_limits/OpensWhole no_limits/' statement/docs/CALLING.md
+    run statement/docs/trusted --check
+    ended "what docs/CALLING.md shows otherwise than the sources" 1
+    want "what docs/CALLING.md shows otherwise than the sources is said" grep -q 'docs/CALLING.md shows .open_pieces. otherwise' report
+    cp "$top/docs/CALLING.md" statement/docs
     cp statement/docs/TRUSTED.md page
     says "a name that nothing defines" 'rcon i = xtimes (nowhere i) 1 ∷ []' ''
     run statement/docs/trusted --write
