@@ -1,6 +1,6 @@
 //! The cipher over round keys (FIPS 197, 5.1), on one block in a vector.
 
-ghost use Rattle.std.specs.Prelude.{◌≡◌, ◌<◌, ℕ, slice_index};
+ghost use Rattle.std.specs.Prelude.{◌≡◌, ◌<◌, ℕ, map, slice_index};
 ghost use Rattle.cipher_spec.specs.Aes.{add_round_key, cipher, last_round, round, word_at};
 ghost use Rattle.plane_core.specs.Places.{below, shifted};
 ghost use Rattle.aes_core.specs.Counters.{without_column};
@@ -80,6 +80,23 @@ pub fn cipher(keys: &[[u8; 16]; 15], x: [u8; 16]) -> [u8; 16]
         state = next;
     }
     last_round(state, keys[14])
+}
+
+/// Two blocks enciphered under the 15 round keys, round by round: neither waits for the other, so
+/// both take hardly longer than one.
+#[inline(always)]
+pub fn cipher_two(keys: &[[u8; 16]; 15], x: &[[u8; 16]; 2]) -> [[u8; 16]; 2]
+    ensures { result ≡ map (cipher keys.now) x.now }
+{
+    let mut one = first(x[0], keys[0]);
+    let mut two = first(x[1], keys[0]);
+    'both: for r in 1..14 {
+        let next = round(one, keys[r]);
+        let other = round(two, keys[r]);
+        one = next;
+        two = other;
+    }
+    [last_round(one, keys[14]), last_round(two, keys[14])]
 }
 
 /// The state after the first round (FIPS 197, 5.1).

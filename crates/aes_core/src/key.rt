@@ -11,7 +11,7 @@ ghost use Rattle.aes_core.specs.Counters.{HasColumns, IsPage, last_key_byte};
 ghost use Rattle.aes_core.specs.PlaneKeys.{HasKeys};
 
 use crate::after_second::{cipher_from, second_states};
-use crate::cipher::cipher;
+use crate::cipher::{cipher, cipher_two};
 use crate::counter::counter_blocks;
 use crate::key_schedule::round_keys;
 use crate::page::{CounterPage, group_states, page_of, turn};
@@ -71,6 +71,13 @@ impl Key256 {
         ensures { result ≡ aes self.now x }
     {
         cipher(&self.schedule, x)
+    }
+
+    /// Two blocks, each enciphered under the key, in hardly more time than one.
+    pub fn blocks2(&self, x: [[u8; 16]; 2]) -> [[u8; 16]; 2]
+        ensures { result ≡ map (aes self.now) x }
+    {
+        cipher_two(&self.schedule, &x)
     }
 
     /// Four blocks, each enciphered under the key. The round keys' planes for four blocks are made

@@ -21,8 +21,11 @@ const GROUP: usize = 128;
 /// The bytes of sixteen blocks.
 const WIDE_GROUP: usize = 256;
 
-/// Up to so many bytes are enciphered sooner block by block than as a part of eight blocks.
-const FEW: usize = 48;
+/// The bytes of two blocks.
+const PAIR: usize = 32;
+
+/// Up to so many bytes are enciphered sooner two blocks at a time than as a part of eight blocks.
+const FEW: usize = 64;
 
 /// Adds the enciphered counter blocks to the text, block by block, from that of the count `first`
 /// on.
@@ -42,6 +45,23 @@ pub fn gctr_by_blocks(key: &Key256, iv: &[u8; 12], first: u32, text: &mut [u8])
     }
     let mask = key.block(counter_block(iv, count));
     add_mask(text, 16 * whole, rest, &mask);
+}
+
+/// Adds up to two enciphered counter blocks to a text that reaches no further, from that of the
+/// count `first` on.
+#[inline(always)]
+fn gctr_pair(key: &Key256, iv: &[u8; 12], first: u32, text: &mut [u8])
+    requires { length text.old ≤ 32 }
+    ensures { text.new ≡ gctr key.now (iv.now ++ to_be_bytes w32 first) text.old }
+{
+    if text.len() <= 16 {
+        return gctr_by_blocks(key, iv, first, text);
+    }
+    let blocks = [
+        counter_block(iv, first),
+        counter_block(iv, first.wrapping_add(1)),
+    ];
+    add_masks(text, &key.blocks2(blocks));
 }
 
 /// Adds eight enciphered counter blocks to a text that reaches no further, from that of the count
@@ -76,12 +96,25 @@ pub fn gctr(key: &Key256, iv: &[u8; 12], first: u32, text: &mut [u8])
     ensures { text.new ≡ gctr key.now (iv.now ++ to_be_bytes w32 first) text.old }
 {
     if text.len() <= FEW {
-        gctr_by_blocks(key, iv, first, text);
+        gctr_by_pairs(key, iv, first, text);
     } else if is_wide() {
         gctr_by_wide_groups(key, iv, first, text);
     } else {
         gctr_by_groups(key, iv, first, text);
     }
+}
+
+/// The same, two blocks at a time.
+fn gctr_by_pairs(key: &Key256, iv: &[u8; 12], first: u32, text: &mut [u8])
+    ensures { text.new ≡ gctr key.now (iv.now ++ to_be_bytes w32 first) text.old }
+{
+    let pairs = text.len() / PAIR;
+    let mut count = first;
+    'pairs: for k in 0..pairs {
+        gctr_pair(key, iv, count, &mut text[PAIR * k..PAIR * k + PAIR]);
+        count = count.wrapping_add(2);
+    }
+    gctr_pair(key, iv, count, &mut text[PAIR * pairs..]);
 }
 
 /// The same, eight blocks at a time.
@@ -131,7 +164,7 @@ fn gctr_rest(key: &Key256, iv: &[u8; 12], first: u32, page: &mut CounterPage, te
     ensures { text.new ≡ gctr key.now (iv.now ++ to_be_bytes w32 first) text.old }
 {
     if text.len() <= FEW {
-        gctr_by_blocks(key, iv, first, text);
+        gctr_by_pairs(key, iv, first, text);
     } else {
         gctr_group(key, iv, first, page, text);
     }

@@ -4,7 +4,7 @@ ghost use Rattle.std.specs.Prelude.{◌≡◌, ◌+◌, ◌-◌, ◌^◌, ◌≤
 ghost use Rattle.std.specs.Prelude.{Some, None, IfOk};
 ghost use Rattle.cipher_spec.specs.Gcm.{opened, sealed};
 
-use crate::authentication::{begin_over, hasher_of};
+use crate::authentication::{begin_over, hasher_of, tag_mask};
 use crate::seal::{open_hashing, seal_hashing};
 use aes_core::Key256;
 use ghash_core::Ghash;
@@ -77,7 +77,16 @@ impl GcmKey {
     {
         let tables = &mut *self.tables;
         begin_over(&mut tables.hash, first, second);
-        seal_hashing(&tables.cipher, &mut tables.hash, iv, first, second, text)
+        let mask = tag_mask(&tables.cipher, iv);
+        seal_hashing(
+            &tables.cipher,
+            &mask,
+            &mut tables.hash,
+            iv,
+            first,
+            second,
+            text,
+        )
     }
 
     /// Answers whether the tag is that of the associated data, `first` and then `second`, and the
@@ -100,8 +109,10 @@ impl GcmKey {
     {
         let tables = &mut *self.tables;
         begin_over(&mut tables.hash, first, second);
+        let mask = tag_mask(&tables.cipher, iv);
         open_hashing(
             &tables.cipher,
+            &mask,
             &mut tables.hash,
             iv,
             first,

@@ -4,7 +4,7 @@ ghost use Rattle.std.specs.Prelude.{◌≡◌, ◌+◌, ◌-◌, ◌^◌, ◌≤
 ghost use Rattle.std.specs.Prelude.{None};
 ghost use Rattle.cipher_spec.specs.Gcm.{opened};
 
-use crate::authentication::{begin_over, hasher_of};
+use crate::authentication::{begin_over, hasher_of, tag_mask};
 use crate::seal::open_hashing;
 use aes_core::Key256;
 use ghash_core::Ghash;
@@ -64,6 +64,16 @@ impl<'a> GcmOpener<'a> {
         ensures same { self.new ≡ self.old }
     {
         self.hash.resume(self.aad_hash);
-        open_hashing(&self.cipher, &mut self.hash, iv, self.aad, &[], text, tag)
+        let mask = tag_mask(&self.cipher, iv);
+        open_hashing(
+            &self.cipher,
+            &mask,
+            &mut self.hash,
+            iv,
+            self.aad,
+            &[],
+            text,
+            tag,
+        )
     }
 }

@@ -2,10 +2,10 @@
 //! 800-38D), with initialization vectors of 12 bytes and tags of 16 bytes.
 //!
 //! A text is enciphered eight blocks at a time, or sixteen in a program that is built for vectors
-//! of 32 bytes, and hashed four at a time, piece by piece, so that a piece is still in the first
-//! cache when it is hashed. The functions whose names end in
-//! `by_blocks` do the same one block at a time: they serve the ends of texts, and to measure the
-//! others by.
+//! of 32 bytes, and a short one or the end of a long one two at a time; it is hashed four at a
+//! time, piece by piece, so that a piece is still in the first cache when it is hashed. The
+//! functions whose names end in `by_blocks` do the same one block at a time: they serve last
+//! blocks, and to measure the others by.
 //!
 //! `GcmKey` is for many texts under one key, such as the frames of a message: it holds what is made
 //! of the key alone. A `GcmOpener` is for many texts under one key over the same associated data,

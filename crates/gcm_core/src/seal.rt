@@ -4,10 +4,11 @@ ghost use Rattle.std.specs.Prelude.{◌≡◌, ◌↔◌, ◌+◌, ◌-◌, ◌^
 ghost use Rattle.std.specs.Prelude.{length, if◌then◌else◌, Some, None};
 ghost use Rattle.std.specs.Int.{w32, to_be_bytes};
 ghost use Rattle.cipher_spec.specs.Ghash.{ghash, ghash_from};
-ghost use Rattle.cipher_spec.specs.Gcm.{blocks, gctr, hash_key, opened, sealed};
+ghost use Rattle.cipher_spec.specs.Aes.{aes};
+ghost use Rattle.cipher_spec.specs.Gcm.{blocks, gctr, hash_key, opened, pre_counter, sealed};
 
 use crate::absorbing::absorb;
-use crate::authentication::{authentication_tag, begin_over, finished_tag, hasher_in_place_of};
+use crate::authentication::{begin_over, finished_tag, subkey_and_mask};
 use crate::comparing::same;
 use crate::counter_mode::{TEXT_COUNT, gctr};
 use aes_core::Key256;
@@ -44,10 +45,11 @@ fn encipher_and_absorb(key: &Key256, iv: &[u8; 12], hash: &mut Ghash, text: &mut
     absorb(hash, rest);
 }
 
-/// Enciphers the text in place, and answers the tag, by a hasher under the key's hash subkey that
-/// took the associated data alone.
+/// Enciphers the text in place, and answers the tag, by its mask and a hasher under the key's hash
+/// subkey that took the associated data alone.
 pub fn seal_hashing(
     key: &Key256,
+    mask: &[u8; 16],
     hash: &mut Ghash,
     iv: &[u8; 12],
     first: &[u8],
@@ -56,6 +58,7 @@ pub fn seal_hashing(
 ) -> [u8; 16]
     requires short { length text.old ≤ 2 ^ 36 - 32 }
     requires few { length first.now + length second.now ≤ 2 ^ 32 }
+    requires mask { mask.now ≡ aes key.now (pre_counter iv.now) }
     requires begun { hash.old
         ≡ record {
           key = hash_key key.now;
@@ -65,7 +68,7 @@ pub fn seal_hashing(
     ensures kept { hash.new.key ≡ hash.old.key }
 {
     encipher_and_absorb(key, iv, hash, text);
-    finished_tag(key, iv, hash, first.len() + second.len(), text.len())
+    finished_tag(mask, hash, first.len() + second.len(), text.len())
 }
 
 /// Enciphers the text in place, and answers the tag over the associated data, which is `first` and
@@ -82,15 +85,17 @@ pub fn seal_in_place(
     requires few { length first.now + length second.now ≤ 2 ^ 32 }
     ensures { (text.new, result) ≡ sealed key.now iv.now (first.now ++ second.now) text.old }
 {
-    let mut hash = hasher_in_place_of(key);
+    let made = subkey_and_mask(key, iv);
+    let mut hash = Ghash::in_place(made[0]);
     begin_over(&mut hash, first, second);
-    seal_hashing(key, &mut hash, iv, first, second, text)
+    seal_hashing(key, &made[1], &mut hash, iv, first, second, text)
 }
 
-/// Answers whether the tag is right, and deciphers the text in place if it is, by a hasher under
-/// the key's hash subkey that took the associated data alone.
+/// Answers whether the tag is right, and deciphers the text in place if it is, by the mask of the
+/// tag and a hasher under the key's hash subkey that took the associated data alone.
 pub fn open_hashing(
     key: &Key256,
+    mask: &[u8; 16],
     hash: &mut Ghash,
     iv: &[u8; 12],
     first: &[u8],
@@ -100,6 +105,7 @@ pub fn open_hashing(
 ) -> bool
     requires short { length text.old ≤ 2 ^ 36 - 32 }
     requires few { length first.now + length second.now ≤ 2 ^ 32 }
+    requires mask { mask.now ≡ aes key.now (pre_counter iv.now) }
     requires begun { hash.old
         ≡ record {
           key = hash_key key.now;
@@ -110,7 +116,8 @@ pub fn open_hashing(
     ensures kept { result ≡ false → text.new ≡ text.old }
     ensures subkey { hash.new.key ≡ hash.old.key }
 {
-    let right = authentication_tag(key, hash, iv, first, second, text);
+    absorb(hash, text);
+    let right = finished_tag(mask, hash, first.len() + second.len(), text.len());
     if !same(&right, tag) {
         return false;
     }
@@ -139,7 +146,8 @@ pub fn open_in_place(
         → (opened key.now iv.now (first.now ++ second.now) text.old tag.now ≡ Some t)
         ↔ (sealed key.now iv.now (first.now ++ second.now) t ≡ (text.old, tag.now)) }
 {
-    let mut hash = hasher_in_place_of(key);
+    let made = subkey_and_mask(key, iv);
+    let mut hash = Ghash::in_place(made[0]);
     begin_over(&mut hash, first, second);
-    open_hashing(key, &mut hash, iv, first, second, text, tag)
+    open_hashing(key, &made[1], &mut hash, iv, first, second, text, tag)
 }

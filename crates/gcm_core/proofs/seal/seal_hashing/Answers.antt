@@ -13,5 +13,5 @@ returns-clause-sealed c =
     let second = c.args.second.now in
     let cipher = c.encipher_and_absorb.new.text in
     let enciphered : cipher ≡ cipher_of key iv c.args.text.now = c.encipher_and_absorb.ensures.enciphered ∙ gctr-count_two key iv c.args.text.now c.told-iv in
-    let tag : c.finished_tag.result ≡ tag_of key iv (first ++ second) cipher = tag-finished key iv (first ++ second) cipher _ c.args.hash.now c.encipher_and_absorb.new.hash c.finished_tag.result c.requires.begun c.encipher_and_absorb.ensures.hashed (sym (length-append first second)) c.finished_tag.ensures.tag in
+    let tag : c.finished_tag.result ≡ tag_of key iv (first ++ second) cipher = tag-finished key iv (first ++ second) cipher _ c.args.hash.now c.encipher_and_absorb.new.hash c.finished_tag.result c.requires.begun c.encipher_and_absorb.ensures.hashed (sym (length-append first second)) (c.finished_tag.ensures.tag key iv c.requires.mask) in
     rw (tag, enciphered) refl

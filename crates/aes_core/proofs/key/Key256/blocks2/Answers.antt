@@ -1,0 +1,7 @@
+use Rattle.std.proofs.Common.{refl, ◌∙◌}
+use Rattle.cipher_spec.specs.Aes.{aes}
+use Rattle.aes_core.proofs.key.Key256.blocks2.Goals as goal
+
+pub returns : goal.returns
+unfolding aes
+returns c = c.cipher_two.ensures ∙ rw (c.self.invariant.0, c.self.view_is) refl
