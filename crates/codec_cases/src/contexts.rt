@@ -4,7 +4,8 @@ use crate::line::Line;
 use crate::words::Words;
 use crate::wrong::Wrong;
 use context_codec::{Context, KeySet, PairError, join, read_field};
-use std::alloc::Global;
+use esdk_fields::Text;
+use std::alloc::{AllocError, Global};
 
 /// `context BYTES`: the context that the bytes spell, and its text; or their fault.
 pub(crate) fn read(words: &mut Words<'_>, line: &mut Line) -> Result<(), Wrong> {
@@ -28,14 +29,21 @@ pub(crate) fn insert(words: &mut Words<'_>, line: &mut Line) -> Result<(), Wrong
     let mut context = words.context();
     let key = words.text()?;
     let value = words.text()?;
-    match context.insert(words.alloc, key.as_str(), value.as_str()) {
+    put_inserted(words.alloc, &mut context, &key, &value, line);
+    Ok(())
+}
+
+/// Inserts a pair, and puts why that is refused, and the copied context.
+fn put_inserted(alloc: Global, context: &mut Context, key: &Text, value: &Text, line: &mut Line) {
+    match context.insert(alloc, key.as_str(), value.as_str()) {
         Ok(()) => {}
         Err(PairError::Refusal(refusal)) => line.refusal(&refusal),
-        Err(PairError::Memory) => return Err(Wrong::Memory),
+        Err(PairError::Memory) => line.cut(),
     }
-    let copy = context.copy(words.alloc)?;
-    put_context(words.alloc, &copy, line);
-    Ok(())
+    match context.copy(alloc) {
+        Ok(copy) => put_context(alloc, &copy, line),
+        Err(_) => line.cut(),
+    }
 }
 
 /// `join PAIRS PAIRS`: stored pairs and given ones: the whole context, and the pairs that are only
@@ -68,15 +76,17 @@ pub(crate) fn unite(words: &mut Words<'_>, line: &mut Line) -> Result<(), Wrong>
     let first = words.keys();
     let second = words.keys();
     let key = words.text()?;
-    let both = first.union(words.alloc, &second)?.copy(words.alloc)?;
+    let both = copied_union(words.alloc, &first, &second)?;
     put_keys(&first, line);
     put_keys(&both, line);
-    line.word(if both.contains(key.as_str()) {
-        "held"
-    } else {
-        "absent"
-    });
+    let has_key = both.contains(key.as_str());
+    line.word(if has_key { "held" } else { "absent" });
     Ok(())
+}
+
+/// The copied union of two sets.
+fn copied_union(alloc: Global, first: &KeySet, second: &KeySet) -> Result<KeySet, AllocError> {
+    first.union(alloc, second)?.copy(alloc)
 }
 
 /// Puts how many keys there are, and each.

@@ -9,8 +9,11 @@ use sha2::{Digest, Sha512};
 use std::alloc::{AllocError, Global};
 use std::str;
 
-/// The words of an answer, with a space between them. A word for which memory runs out is left out,
-/// and then there is no text.
+/// The most bytes that are printed as they are.
+const MOST_SHOWN: usize = 64;
+
+/// The words of an answer, with a space between them. Where memory runs out for a word, there is no
+/// text.
 #[derive(Drop)]
 pub(crate) struct Line {
     alloc: Global,
@@ -51,18 +54,14 @@ impl Line {
 
     /// Puts a word behind a space, unless it is the first.
     fn push(&mut self, word: &str) -> Result<(), AllocError> {
-        if !self.text.is_empty() {
-            self.text.push_str(" ")?;
-        }
-        Ok(self.text.push_str(word)?)
+        self.begin()?;
+        self.text.push_str(word)
     }
 
-    /// Puts a word that was made.
-    fn made(&mut self, word: Result<String, AllocError>) {
-        match word {
-            Ok(word) => self.word(word.as_str()),
-            Err(AllocError) => self.is_cut = true,
-        }
+    /// Puts a space, unless there is no word yet.
+    fn begin(&mut self) -> Result<(), AllocError> {
+        let space = if self.text.is_empty() { "" } else { " " };
+        self.text.push_str(space)
     }
 
     /// Puts a text that was made.
@@ -75,15 +74,27 @@ impl Line {
 
     /// Puts a number.
     pub(crate) fn number(&mut self, number: u64) {
-        let word = format!(in self.alloc; "{number}");
-        self.made(word);
+        if self.push_number(number).is_err() {
+            self.is_cut = true;
+        }
+    }
+
+    fn push_number(&mut self, number: u64) -> Result<(), AllocError> {
+        self.begin()?;
+        write!(self.text, "{number}")
     }
 
     /// Puts bytes: `-` for none, hexadecimal digits for up to 64, else their number and their
     /// digest by SHA-512.
     pub(crate) fn bytes(&mut self, bytes: &[u8]) {
-        let word = bytes_word(self.alloc, bytes);
-        self.made(word);
+        if self.push_bytes(bytes).is_err() {
+            self.is_cut = true;
+        }
+    }
+
+    fn push_bytes(&mut self, bytes: &[u8]) -> Result<(), AllocError> {
+        self.begin()?;
+        put_bytes(&mut self.text, bytes)
     }
 
     /// Puts bytes that were made.
@@ -133,14 +144,22 @@ impl Line {
     }
 }
 
-/// Bytes as they are printed.
-fn bytes_word(alloc: Global, bytes: &[u8]) -> Result<String, AllocError> {
-    match bytes.len() {
-        0 => String::from_str(alloc, "-"),
-        1..=64 => hex::encode(alloc, bytes),
-        count => {
-            let digest = hex::encode(alloc, Sha512::digest(bytes).as_slice())?;
-            format!(in alloc; "{count}:{digest}")
-        }
+/// Puts bytes as they are printed.
+fn put_bytes(text: &mut String, bytes: &[u8]) -> Result<(), AllocError> {
+    if bytes.is_empty() {
+        return text.push_str("-");
     }
+    if bytes.len() <= MOST_SHOWN {
+        return put_digits(text, bytes);
+    }
+    write!(text, "{}:", bytes.len())?;
+    put_digits(text, &Sha512::digest(bytes))
+}
+
+/// Puts the hexadecimal digits of bytes.
+fn put_digits(text: &mut String, bytes: &[u8]) -> Result<(), AllocError> {
+    for byte in bytes {
+        write!(text, "{byte:02x}")?;
+    }
+    Ok(())
 }

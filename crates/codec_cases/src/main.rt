@@ -22,24 +22,57 @@ mod wrong;
 
 use calls::answer_line;
 use named::Named;
-use std::io;
+use std::io::Read;
 use std::process::ExitCode;
 
 /// Answers the calls of standard input, up to the first line that can't be read.
-fn main(rt: HostRuntime) -> io::Result<ExitCode> {
-    let mut named = Named::new(rt.alloc());
-    let mut number = 0u64;
-    for line in rt.lines(rt.alloc()) {
-        number = number.saturating_add(1);
-        match answer_line(rt.alloc(), &mut named, line?.as_str()) {
-            Ok(Some(answer)) => println!(rt; "{answer}")?,
-            Ok(None) => {}
-            Err(wrong) => {
-                let what = wrong.what();
-                println!(rt; "line {number}: {what}")?;
-                return Ok(ExitCode::FAILURE);
-            }
+fn main(rt: HostRuntime) -> ExitCode {
+    let mut number = 0;
+    match answer_input(&rt, &mut number) {
+        Ok(()) => ExitCode::SUCCESS,
+        Err(what) => {
+            let _ = println!(rt; "line {number}: {what}");
+            ExitCode::FAILURE
         }
     }
-    Ok(ExitCode::SUCCESS)
+}
+
+/// Answers the calls of the input. The number is left at the line that was taken last.
+fn answer_input(
+    rt: &(impl Input + Print + AllocGlobal),
+    number: &mut u64,
+) -> Result<(), &'static str> {
+    let mut bytes = Vec::new(rt.alloc());
+    if rt.reader().read_to_end(&mut bytes).is_err() {
+        return Err("the input can't be read");
+    }
+    let Ok(text) = str::from_utf8(&bytes) else {
+        return Err("not UTF-8");
+    };
+    let mut named = Named::new(rt.alloc());
+    for line in text.lines() {
+        *number = number.saturating_add(1);
+        print_answer(rt, &mut named, line)?;
+    }
+    Ok(())
+}
+
+/// Prints the answer to a line, if it has one.
+fn print_answer(
+    rt: &(impl Print + AllocGlobal),
+    named: &mut Named,
+    line: &str,
+) -> Result<(), &'static str> {
+    match answer_line(rt.alloc(), named, line) {
+        Ok(Some(answer)) => print_line(rt, answer.as_str()),
+        Ok(None) => Ok(()),
+        Err(wrong) => Err(wrong.what()),
+    }
+}
+
+fn print_line(rt: &impl Print, line: &str) -> Result<(), &'static str> {
+    match rt.println(line) {
+        Ok(()) => Ok(()),
+        Err(_) => Err("the output failed"),
+    }
 }

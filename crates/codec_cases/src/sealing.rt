@@ -59,7 +59,10 @@ fn materials(
         request.requiring(alloc, keys),
         RawAes::new(alloc, "ns", "k", key),
     ) {
-        (Ok(request), Ok(keyring)) => drawn(alloc, DefaultCmm::new(keyring), &request, random),
+        (Ok(request), Ok(keyring)) => {
+            let mut manager = DefaultCmm::new(keyring);
+            drawn(alloc, &mut manager, &request, random)
+        }
         _ => None,
     }
 }
@@ -67,11 +70,10 @@ fn materials(
 /// What the manager of one key gives at this request.
 fn drawn(
     alloc: Global,
-    manager: DefaultCmm<RawAes>,
+    manager: &mut impl Manager,
     request: &EncRequest,
     random: &[u8; 44],
 ) -> Option<EncMaterials> {
-    let mut manager = manager;
     if manager.wraps() != 1 {
         return None;
     }

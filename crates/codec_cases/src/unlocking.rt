@@ -41,12 +41,22 @@ fn put_unlocking(
     only: &Context,
     line: &mut Line,
 ) -> Result<(), AllocError> {
-    let mut message_key = message_key(alloc, header.algorithm(), key, header.message_id())?;
-    let tag = header_tag(alloc, &mut message_key, header.iv(), header.raw(), only)?;
+    let tag = tag_under(alloc, header, key, only)?;
     line.bytes(&tag);
     match unlocked_key(alloc, header.lock(), only, key)? {
         Ok(_) => line.word("unlocked"),
         Err(fault) => line.fault(&fault),
     }
     Ok(())
+}
+
+/// The tag of a header under a data key.
+fn tag_under(
+    alloc: Global,
+    header: &Header,
+    key: &DataKey,
+    only: &Context,
+) -> Result<[u8; 16], AllocError> {
+    let mut message_key = message_key(alloc, header.algorithm(), key, header.message_id())?;
+    header_tag(alloc, &mut message_key, header.iv(), header.raw(), only)
 }

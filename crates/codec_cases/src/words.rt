@@ -162,11 +162,14 @@ impl<'a> Words<'a> {
 
     /// `yes` or `no`.
     pub(crate) fn flag(&mut self) -> bool {
-        let word = self.word();
-        if word != "yes" && word != "no" {
-            self.refuse(Wrong::Word);
+        match self.word() {
+            "yes" => true,
+            "no" => false,
+            _ => {
+                self.refuse(Wrong::Word);
+                false
+            }
         }
-        word == "yes"
     }
 
     /// The greatest number of encrypted data keys.
@@ -194,12 +197,6 @@ impl<'a> Words<'a> {
     /// others.
     pub(crate) fn cut(&mut self) -> Cut {
         let word = self.word();
-        if word == "-" {
-            return Cut {
-                first: 0,
-                rest: usize::MAX,
-            };
-        }
         match word.strip_prefix('<') {
             Some(first) => Cut {
                 first: self.counted(first),
@@ -207,8 +204,17 @@ impl<'a> Words<'a> {
             },
             None => Cut {
                 first: 0,
-                rest: self.counted(word),
+                rest: self.piece(word),
             },
+        }
+    }
+
+    /// How long each piece is: `-` for one piece, or a number.
+    fn piece(&mut self, word: &str) -> usize {
+        if word == "-" {
+            usize::MAX
+        } else {
+            self.counted(word)
         }
     }
 
@@ -254,9 +260,14 @@ impl<'a> Words<'a> {
         if item == "-" {
             return Ok(());
         }
-        let Some((key, value)) = item.split_once('=') else {
-            return Err(Wrong::Word);
-        };
+        match item.split_once('=') {
+            Some((key, value)) => self.insert_pair(key, value, context),
+            None => Err(Wrong::Word),
+        }
+    }
+
+    /// Inserts the pair of these words.
+    fn insert_pair(&self, key: &str, value: &str, context: &mut Context) -> Result<(), Wrong> {
         let key = self.named.text(self.alloc, key)?;
         let value = self.named.text(self.alloc, value)?;
         match context.insert(self.alloc, key.as_str(), value.as_str()) {
@@ -306,9 +317,14 @@ impl<'a> Words<'a> {
         let Some((provider, rest)) = item.split_once(':') else {
             return Err(Wrong::Word);
         };
-        let Some((info, cipher)) = rest.split_once(':') else {
-            return Err(Wrong::Word);
-        };
+        match rest.split_once(':') {
+            Some((info, cipher)) => self.entry_of(provider, info, cipher),
+            None => Err(Wrong::Word),
+        }
+    }
+
+    /// The entry of these words.
+    fn entry_of(&self, provider: &str, info: &str, cipher: &str) -> Result<DataKeyEntry, Wrong> {
         let provider = self.named.part(self.alloc, provider)?;
         let info = self.named.part(self.alloc, info)?;
         let cipher = self.named.part(self.alloc, cipher)?;

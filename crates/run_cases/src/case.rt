@@ -2,7 +2,7 @@
 use crate::fault::Fault;
 use crate::named::{Named, append, set_once, set_room};
 use crate::values::bytes_of;
-use crate::words::{add_numbers, halves, name, size};
+use crate::words::{add_numbers, halves, name_of, size};
 use esdk_fields::Text;
 use std::alloc::Global;
 
@@ -61,12 +61,27 @@ impl Plan {
     }
 }
 
+impl PlugPlan {
+    /// A plug with these names, of which nothing was said yet.
+    fn new(alloc: Global, name: &str, namespace: &str, key_name: &str) -> Result<PlugPlan, Fault> {
+        let name = name_of(alloc, name)?;
+        let namespace = name_of(alloc, namespace)?;
+        let key_name = name_of(alloc, key_name)?;
+        Ok(PlugPlan {
+            name,
+            namespace,
+            key_name,
+            files: Vec::new(alloc),
+            failing: Vec::new(alloc),
+        })
+    }
+}
+
 impl Case {
     /// A case with this name, of which nothing was said yet.
     pub fn new(alloc: Global, text: &str) -> Result<Case, Fault> {
-        let name = String::from_str(alloc, name(text)?)?;
         Ok(Case {
-            name,
+            name: name_of(alloc, text)?,
             words: Vec::new(alloc),
             input: Plan::new(alloc),
             output: Plan::new(alloc),
@@ -87,25 +102,41 @@ impl Case {
         word: &str,
         rest: &str,
     ) -> Result<(), Fault> {
-        let (front, behind) = halves(rest);
+        match word {
+            "word" | "input" | "entropy" | "plug-file" => {
+                let bytes = bytes_of(alloc, values, rest)?;
+                self.set_bytes(alloc, word, &bytes)
+            }
+            "file" => {
+                let (name, value) = halves(rest);
+                let bytes = bytes_of(alloc, values, value)?;
+                append(alloc, &mut self.files, name, &bytes)
+            }
+            _ => self.set_text(alloc, word, rest),
+        }
+    }
+
+    /// Takes in a setting that has no value.
+    fn set_text(&mut self, alloc: Global, word: &str, rest: &str) -> Result<(), Fault> {
         match word {
             "words" => self.add_words(alloc, rest),
             "clock" => add_numbers(&mut self.moments, rest, 0),
             "piece" => set_once(&mut self.input.most, size(rest, 1)?),
-            "fail" => self.fail(front, behind),
-            "room" => self.set_room(front, size(behind, 0)?),
-            "room-file" => set_room(alloc, &mut self.files, front, size(behind, 0)?),
-            "file" => append(
-                alloc,
-                &mut self.files,
-                front,
-                &bytes_of(alloc, values, behind)?,
-            ),
-            "plug" => self.add_plug(alloc, front, behind),
             "plug-fail" => add_numbers(&mut self.plug()?.failing, rest, 1),
-            "word" | "input" | "entropy" | "plug-file" => {
-                self.set_bytes(alloc, word, &bytes_of(alloc, values, rest)?)
+            _ => {
+                let (front, behind) = halves(rest);
+                self.set_of(alloc, word, front, behind)
             }
+        }
+    }
+
+    /// Takes in a setting of a name and what stands behind it.
+    fn set_of(&mut self, alloc: Global, word: &str, name: &str, rest: &str) -> Result<(), Fault> {
+        match word {
+            "fail" => self.fail(name, rest),
+            "room" => self.set_room(name, size(rest, 0)?),
+            "room-file" => set_room(alloc, &mut self.files, name, size(rest, 0)?),
+            "plug" => self.add_plug(alloc, name, rest),
             _ => Err(Fault("unknown setting")),
         }
     }
@@ -155,13 +186,7 @@ impl Case {
 
     fn add_plug(&mut self, alloc: Global, plug: &str, names: &str) -> Result<(), Fault> {
         let (namespace, key_name) = halves(names);
-        let plug = PlugPlan {
-            name: String::from_str(alloc, name(plug)?)?,
-            namespace: String::from_str(alloc, name(namespace)?)?,
-            key_name: String::from_str(alloc, name(key_name)?)?,
-            files: Vec::new(alloc),
-            failing: Vec::new(alloc),
-        };
+        let plug = PlugPlan::new(alloc, plug, namespace, key_name)?;
         Ok(self.plugs.push(plug)?)
     }
 

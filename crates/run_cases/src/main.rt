@@ -40,16 +40,37 @@ fn answer_input(rt: &(impl Input + Print + AllocGlobal), number: &mut u64) -> Re
     if rt.reader().read_to_end(&mut bytes).is_err() {
         return Err(Fault("the input can't be read"));
     }
+    answer_lines(rt, &bytes, number)
+}
+
+/// Answers the cases of the input's lines.
+fn answer_lines(
+    rt: &(impl Print + AllocGlobal),
+    bytes: &[u8],
+    number: &mut u64,
+) -> Result<(), Fault> {
     let mut values = Vec::new(rt.alloc());
     let mut case = None;
+    take_lines(rt, &mut values, &mut case, bytes, number)?;
+    end_case(rt, &mut case)
+}
+
+/// Takes in the lines.
+fn take_lines(
+    rt: &(impl Print + AllocGlobal),
+    values: &mut Vec<Named>,
+    case: &mut Option<Case>,
+    bytes: &[u8],
+    number: &mut u64,
+) -> Result<(), Fault> {
     for line in bytes.split(|byte| *byte == b'\n') {
         *number = number.saturating_add(1);
         let Ok(line) = str::from_utf8(line) else {
             return Err(Fault("not UTF-8"));
         };
-        take_line(rt, &mut values, &mut case, line)?;
+        take_line(rt, values, case, line)?;
     }
-    end_case(rt, &mut case)
+    Ok(())
 }
 
 /// Takes in a line.
@@ -86,8 +107,14 @@ fn end_case(rt: &(impl Print + AllocGlobal), case: &mut Option<Case>) -> Result<
     let Some(ended) = case.take() else {
         return Ok(());
     };
-    let line = answer(rt.alloc(), &ended)?;
-    rt.println(line.as_str())
-        .ok()
-        .ok_or(Fault("the output failed"))
+    print_answer(rt, &ended)
+}
+
+/// Runs the case, and prints its line.
+fn print_answer(rt: &(impl Print + AllocGlobal), case: &Case) -> Result<(), Fault> {
+    let line = answer(rt.alloc(), case)?;
+    match rt.println(line.as_str()) {
+        Ok(()) => Ok(()),
+        Err(_) => Err(Fault("the output failed")),
+    }
 }

@@ -1,6 +1,6 @@
 //! Bytes under names: values, and files of a shelf.
 use crate::fault::Fault;
-use crate::words::name;
+use crate::words::name_of;
 use std::alloc::Global;
 
 /// Bytes under a name, where there are any, and the room that is taken for them, where it was said.
@@ -30,7 +30,7 @@ pub fn index_of(all: &[Named], name: &str) -> Option<usize> {
 fn entry<'a>(alloc: Global, all: &'a mut Vec<Named>, text: &str) -> Result<&'a mut Named, Fault> {
     let index = index_of(all, text).unwrap_or(all.len());
     if index == all.len() {
-        let name = String::from_str(alloc, name(text)?)?;
+        let name = name_of(alloc, text)?;
         all.push(Named {
             name,
             bytes: None,

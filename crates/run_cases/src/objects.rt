@@ -22,23 +22,34 @@ const MOST_NAME: usize = 1_024;
 /// The keyring of a plug.
 pub type Keydir = KeydirKeyring<MemShelf>;
 
-/// The objects of a run.
+/// What a run reads and writes.
 #[derive(Drop)]
-pub struct Objects {
+pub struct Streams {
     pub input: MemSource,
     pub output: MemSink,
     pub report: MemSink,
+}
+
+/// What else a run is given.
+#[derive(Drop)]
+pub struct Stores {
     pub shelf: MemShelf,
     pub entropy: ListEntropy,
     pub clock: ListClock,
 }
 
-/// The objects as the case plans them.
-pub fn objects_of(alloc: Global, case: &Case) -> Result<Objects, AllocError> {
-    Ok(Objects {
+/// The streams as the case plans them.
+pub fn streams_of(alloc: Global, case: &Case) -> Result<Streams, AllocError> {
+    Ok(Streams {
         input: source_of(alloc, &case.input)?,
         output: sink_of(alloc, &case.output)?,
         report: sink_of(alloc, &case.report)?,
+    })
+}
+
+/// Shelf, entropy and clock as the case plans them.
+pub fn stores_of(alloc: Global, case: &Case) -> Result<Stores, AllocError> {
+    Ok(Stores {
         shelf: shelf_of(alloc, &case.files, &case.failing)?,
         entropy: entropy_of(alloc, &case.entropy)?,
         clock: ListClock::new(Vec::from_slice(alloc, &case.moments)?),
@@ -89,7 +100,13 @@ fn put_file(alloc: Global, shelf: &mut MemShelf, file: &Named) -> Result<(), All
 
 /// The plug as it is planned.
 pub fn plug_of(alloc: Global, plan: &PlugPlan) -> Result<Plug<Keydir>, Fault> {
+    let keyring = keyring_of(alloc, plan)?;
     let name = Text::new(alloc, plan.name.as_str())?;
+    Ok(Plug { name, keyring })
+}
+
+/// The keyring of the plug.
+fn keyring_of(alloc: Global, plan: &PlugPlan) -> Result<Keydir, Fault> {
     let namespace = plan.namespace.as_str();
     let key_name = plan.key_name.as_str();
     if namespace.len() > MOST_NAME || key_name.len() > MOST_NAME {
@@ -97,7 +114,7 @@ pub fn plug_of(alloc: Global, plan: &PlugPlan) -> Result<Plug<Keydir>, Fault> {
     }
     let shelf = shelf_of(alloc, &plan.files, &plan.failing)?;
     match KeydirKeyring::new(alloc, shelf, KEY_FILE, namespace, key_name) {
-        Ok(keyring) => Ok(Plug { name, keyring }),
+        Ok(keyring) => Ok(keyring),
         Err(RawError::ReservedNamespace) => Err(Fault("a plug's namespace is reserved")),
         Err(RawError::Memory) => Err(Fault::from(AllocError)),
     }

@@ -1,5 +1,6 @@
 //! The words of a line.
 use crate::fault::Fault;
+use std::alloc::Global;
 
 /// The largest number of bytes that is taken: 16 MiB.
 const MOST_BYTES: usize = 16_777_216;
@@ -10,11 +11,11 @@ pub fn halves(text: &str) -> (&str, &str) {
 }
 
 /// The text as a name.
-pub fn name(text: &str) -> Result<&str, Fault> {
+pub fn name_of(alloc: Global, text: &str) -> Result<String, Fault> {
     if text.is_empty() || text.contains(' ') {
         return Err(Fault("a name is empty or has a space"));
     }
-    Ok(text)
+    Ok(String::from_str(alloc, text)?)
 }
 
 /// The text as a number of bytes, at least so many.
