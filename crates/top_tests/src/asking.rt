@@ -3,6 +3,7 @@
 use crate::known_wraps::{
     DATA_KEY, RANDOM, TENANT, are_known, context_of, known_cipher, known_entries,
 };
+use context_codec::Context;
 use keyring_trait::{DecMaterials, DecRequest, EncMaterials, EncRequest, Manager, Served};
 use std::alloc::Global;
 
@@ -75,10 +76,15 @@ pub(crate) fn request_to_open(
     suite: u16,
     given: &[(&str, &str)],
 ) -> Option<DecRequest> {
-    let stored = context_of(alloc, &[])?;
-    let given = context_of(alloc, given)?;
-    let entries = known_entries(alloc, &known_cipher())?;
-    Some(DecRequest::new(suite, stored, given, entries))
+    match (
+        context_of(alloc, given),
+        known_entries(alloc, &known_cipher()),
+    ) {
+        (Some(given), Some(entries)) => {
+            Some(DecRequest::new(suite, Context::new(alloc), given, entries))
+        }
+        _ => None,
+    }
 }
 
 /// The materials have the known data key, and were served so.

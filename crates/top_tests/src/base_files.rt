@@ -69,119 +69,64 @@ fn is_emptied(shelf: &mut FileShelf, other: &mut FileShelf, path: &str) -> bool 
         && gives(shelf, path, 0, b"")
 }
 
-/// Whether a file is made, read and emptied, and is missing once it is taken away.
-fn is_used(rt: HostRuntime, shelf: &mut FileShelf, path: &str) -> bool {
-    misses(shelf, path)
-        && grows(shelf, path)
-        && is_read(shelf, path)
-        && is_read_twice(shelf, path)
-        && is_emptied(shelf, &mut FileShelf::new(rt), path)
-        && fs::remove_file(&rt, path).is_ok()
-        && refuses(shelf, path, 0)
-}
-
-/// Whether a file at a path of this process is.
-fn new_file_is_used(rt: HostRuntime) -> bool {
-    match scratch_path(&rt, "files") {
-        Ok(path) => is_used(rt, &mut FileShelf::new(rt), path.as_str()),
-        Err(_) => false,
-    }
-}
-
 #[test]
 fn files_are_made_read_in_pieces_and_emptied(rt: HostRuntime) {
-    assert!(rt; new_file_is_used(rt));
+    let path = scratch_path(&rt, "files").expect(&rt, "memory");
+    let path = path.as_str();
+    let mut shelf = FileShelf::new(rt);
+    assert!(rt; misses(&mut shelf, path) && grows(&mut shelf, path));
+    assert!(rt; is_read(&mut shelf, path) && is_read_twice(&mut shelf, path));
+    assert!(rt; is_emptied(&mut shelf, &mut FileShelf::new(rt), path));
+    assert!(rt; fs::remove_file(&rt, path).is_ok() && refuses(&mut shelf, path, 0));
 }
 
-/// Whether each of these files is made.
-fn all_made(shelf: &mut FileShelf, paths: &[String]) -> bool {
-    for path in paths {
-        if shelf.create(path.as_str()).is_err() {
-            return false;
-        }
-    }
-    true
+/// Whether three files grow in turns.
+fn grow_in_turns(shelf: &mut FileShelf, one: &str, two: &str, three: &str) -> bool {
+    shelf.create(one).is_ok()
+        && shelf.create(two).is_ok()
+        && shelf.create(three).is_ok()
+        && shelf.append(one, b"ab").is_ok()
+        && shelf.append(two, b"fg").is_ok()
+        && shelf.append(three, b"kl").is_ok()
+        && shelf.append(one, b"cde").is_ok()
+        && shelf.append(two, b"hij").is_ok()
+        && shelf.append(three, b"mno").is_ok()
 }
 
-/// Whether each of these files grows by these bytes.
-fn all_grow(shelf: &mut FileShelf, paths: &[String], bytes: &[u8]) -> bool {
-    for path in paths {
-        if shelf.append(path.as_str(), bytes).is_err() {
-            return false;
-        }
-    }
-    true
+/// Whether they are finished, and then read in turns.
+fn are_read_in_turns(shelf: &mut FileShelf, one: &str, two: &str, three: &str) -> bool {
+    shelf.finish(one, Readers::Anyone).is_ok()
+        && shelf.finish(two, Readers::Anyone).is_ok()
+        && shelf.finish(three, Readers::Anyone).is_ok()
+        && gives(shelf, one, 0, b"abcd")
+        && gives(shelf, two, 0, b"fghi")
+        && gives(shelf, three, 0, b"klmn")
+        && gives(shelf, one, 4, b"e")
+        && gives(shelf, two, 4, b"j")
+        && gives(shelf, three, 4, b"o")
 }
 
-/// Whether each of these files is finished.
-fn all_finished(shelf: &mut FileShelf, paths: &[String]) -> bool {
-    for path in paths {
-        if shelf.finish(path.as_str(), Readers::Anyone).is_err() {
-            return false;
-        }
-    }
-    true
+/// Whether each of them is taken away.
+fn are_removed(rt: HostRuntime, one: &str, two: &str, three: &str) -> bool {
+    fs::remove_file(&rt, one).is_ok()
+        && fs::remove_file(&rt, two).is_ok()
+        && fs::remove_file(&rt, three).is_ok()
 }
 
-/// Whether a read of each of these files from this offset on gives just these bytes.
-fn all_give(shelf: &mut FileShelf, paths: &[String], at: u64, want: &[u8]) -> bool {
-    for path in paths {
-        if !gives(shelf, path.as_str(), at, want) {
-            return false;
-        }
-    }
-    true
-}
-
-/// Whether these files grow in turns, and are read in turns.
-fn grow_in_turns(shelf: &mut FileShelf, paths: &[String]) -> bool {
-    all_made(shelf, paths)
-        && all_grow(shelf, paths, b"ab")
-        && all_grow(shelf, paths, b"cde")
-        && all_finished(shelf, paths)
-        && all_give(shelf, paths, 0, b"abcd")
-        && all_give(shelf, paths, 4, b"e")
-}
-
-/// Whether each of these files is taken away.
-fn all_removed(rt: &HostRuntime, paths: &[String]) -> bool {
-    for path in paths {
-        if fs::remove_file(rt, path.as_str()).is_err() {
-            return false;
-        }
-    }
-    true
-}
-
-/// Whether a path of this process stands behind the others now.
-fn is_added(rt: &HostRuntime, paths: &mut Vec<String>, name: &str) -> bool {
-    match scratch_path(rt, name) {
-        Ok(path) => paths.push(path).is_ok(),
-        Err(_) => false,
-    }
-}
-
-/// Whether paths of several files are added.
-fn are_added(rt: &HostRuntime, paths: &mut Vec<String>) -> bool {
-    for name in ["a", "b", "c", "d", "e", "f"] {
-        if !is_added(rt, paths, name) {
-            return false;
-        }
-    }
-    true
-}
-
-/// Whether that many files are used in turns, and are taken away.
-fn many_are_used_in_turns(rt: HostRuntime) -> bool {
-    let mut paths = Vec::new(rt.alloc());
-    are_added(&rt, &mut paths)
-        && grow_in_turns(&mut FileShelf::new(rt), &paths)
-        && all_removed(&rt, &paths)
+/// Whether they are used in turns by one shelf, and taken away.
+fn are_used_in_turns(rt: HostRuntime, one: &str, two: &str, three: &str) -> bool {
+    let mut shelf = FileShelf::new(rt);
+    grow_in_turns(&mut shelf, one, two, three)
+        && are_read_in_turns(&mut shelf, one, two, three)
+        && are_removed(rt, one, two, three)
 }
 
 #[test]
-fn many_files_are_used_in_turns(rt: HostRuntime) {
-    assert!(rt; many_are_used_in_turns(rt));
+fn several_files_are_used_in_turns(rt: HostRuntime) {
+    let one = scratch_path(&rt, "one").expect(&rt, "memory");
+    let two = scratch_path(&rt, "two").expect(&rt, "memory");
+    let three = scratch_path(&rt, "three").expect(&rt, "memory");
+    assert!(rt; are_used_in_turns(rt, one.as_str(), two.as_str(), three.as_str()));
 }
 
 /// Whether a file of five bytes is made by a shelf of its own.
@@ -220,17 +165,10 @@ fn is_read_on(rt: HostRuntime, shelf: &mut FileShelf, path: &str) -> bool {
         && fs::remove_file(&rt, path).is_ok()
 }
 
-/// Whether a file at a path of this process is.
-fn new_file_is_read_on(rt: HostRuntime) -> bool {
-    match scratch_path(&rt, "read_on") {
-        Ok(path) => is_read_on(rt, &mut FileShelf::new(rt), path.as_str()),
-        Err(_) => false,
-    }
-}
-
 #[test]
 fn a_file_is_read_on_while_it_is_open(rt: HostRuntime) {
-    assert!(rt; new_file_is_read_on(rt));
+    let path = scratch_path(&rt, "read_on").expect(&rt, "memory");
+    assert!(rt; is_read_on(rt, &mut FileShelf::new(rt), path.as_str()));
 }
 
 /// Whether what is no regular file is neither read nor written, and what can be none isn't made.
@@ -270,20 +208,12 @@ fn is_followed(rt: HostRuntime, shelf: &mut FileShelf, path: &str, link: &str) -
         && fs::remove_file(&rt, path).is_ok()
 }
 
-/// Whether a file at a path of this process and a link to it are.
-fn new_link_is_followed(rt: HostRuntime) -> bool {
-    match (scratch_path(&rt, "linked"), scratch_path(&rt, "link")) {
-        (Ok(path), Ok(link)) => {
-            is_kept(rt, &mut FileShelf::new(rt), path.as_str(), link.as_str())
-                && is_followed(rt, &mut FileShelf::new(rt), path.as_str(), link.as_str())
-        }
-        _ => false,
-    }
-}
-
 #[test]
 fn nothing_takes_the_place_of_a_file_that_is_read(rt: HostRuntime) {
-    assert!(rt; new_link_is_followed(rt));
+    let path = scratch_path(&rt, "linked").expect(&rt, "memory");
+    let link = scratch_path(&rt, "link").expect(&rt, "memory");
+    assert!(rt; is_kept(rt, &mut FileShelf::new(rt), path.as_str(), link.as_str()));
+    assert!(rt; is_followed(rt, &mut FileShelf::new(rt), path.as_str(), link.as_str()));
 }
 
 /// Whether a file has these rights.
@@ -315,17 +245,10 @@ fn has_the_rights_due(rt: HostRuntime, path: &str) -> bool {
         && fs::remove_file(&rt, path).is_ok()
 }
 
-/// Whether a file at a path of this process has.
-fn new_file_has_the_rights_due(rt: HostRuntime) -> bool {
-    match scratch_path(&rt, "rights") {
-        Ok(path) => has_the_rights_due(rt, path.as_str()),
-        Err(_) => false,
-    }
-}
-
 #[test]
 fn a_new_file_has_the_rights_due_from_the_one_that_it_replaces(rt: HostRuntime) {
-    assert!(rt; new_file_has_the_rights_due(rt));
+    let path = scratch_path(&rt, "rights").expect(&rt, "memory");
+    assert!(rt; has_the_rights_due(rt, path.as_str()));
 }
 
 /// Whether this is the name of a file of this process that isn't whole, and is its owner's alone.
@@ -360,18 +283,10 @@ fn is_taken_away(rt: HostRuntime, shelf: &mut FileShelf, folder: &str, path: &st
         && shelf.append(path, b"a").is_err()
 }
 
-/// Whether a file in a folder of this process is.
-fn new_file_is_taken_away(rt: HostRuntime) -> bool {
-    let Ok(folder) = scratch_path(&rt, "unfinished") else {
-        return false;
-    };
-    let path = format!(in rt.alloc(); "{}/text", folder.as_str());
-    path.is_ok_and(|path| {
-        is_taken_away(rt, &mut FileShelf::new(rt), folder.as_str(), path.as_str())
-    })
-}
-
 #[test]
 fn what_is_not_finished_is_taken_away(rt: HostRuntime) {
-    assert!(rt; new_file_is_taken_away(rt));
+    let folder = scratch_path(&rt, "unfinished").expect(&rt, "memory");
+    let folder = folder.as_str();
+    let path = format!(in rt.alloc(); "{folder}/text").expect(&rt, "memory");
+    assert!(rt; is_taken_away(rt, &mut FileShelf::new(rt), folder, path.as_str()));
 }

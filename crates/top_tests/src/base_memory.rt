@@ -17,7 +17,7 @@ pub(crate) fn blob(alloc: Global, bytes: &[u8]) -> Option<Blob> {
 }
 
 /// These numbers in a row. None where memory runs out.
-pub(crate) fn numbers(alloc: Global, numbers: &[u64]) -> Option<Vec<u64>> {
+fn numbers(alloc: Global, numbers: &[u64]) -> Option<Vec<u64>> {
     match Vec::from_slice(alloc, numbers) {
         Ok(numbers) => Some(numbers),
         Err(_) => None,
@@ -46,14 +46,6 @@ fn source_of_three(alloc: Global) -> Option<MemSource> {
     match (blob(alloc, &[1, 2, 3]), numbers(alloc, &[2])) {
         (Some(bytes), Some(failing)) => Some(MemSource::new(bytes, 2, failing)),
         _ => None,
-    }
-}
-
-/// Whether a new source does so.
-fn source_gives(alloc: Global) -> bool {
-    match source_of_three(alloc) {
-        Some(mut source) => gives_in_turn(&mut source),
-        None => false,
     }
 }
 
@@ -87,14 +79,6 @@ fn keeps_what_fits(sink: &mut MemSink) -> bool {
     takes_what_fits(sink) && sink.written() == [1, 2, 3].as_slice()
 }
 
-/// Whether a new sink does so.
-fn sink_keeps(alloc: Global) -> bool {
-    match sink_of_three(alloc) {
-        Some(mut sink) => keeps_what_fits(&mut sink),
-        None => false,
-    }
-}
-
 /// Whether a read of the file `a`, of at most four bytes, gives just these.
 fn reads<S: Shelf>(shelf: &mut S, want: &[u8]) -> bool {
     let mut out = [0; 4];
@@ -121,7 +105,10 @@ fn is_replaced(alloc: Global, shelf: &mut MemShelf) -> bool {
 
 #[test]
 fn streams_in_memory_go_on_behind_a_failure(rt: HostRuntime) {
-    assert!(rt; source_gives(rt.alloc()) && sink_keeps(rt.alloc()));
+    let mut source = source_of_three(rt.alloc()).expect(&rt, "memory");
+    assert!(rt; gives_in_turn(&mut source));
+    let mut sink = sink_of_three(rt.alloc()).expect(&rt, "memory");
+    assert!(rt; keeps_what_fits(&mut sink));
 }
 
 #[test]

@@ -106,23 +106,10 @@ fn is_read(rt: HostRuntime, path: &str) -> bool {
     }
 }
 
-/// Whether the file of this path is written, read and taken away.
-fn is_used(rt: HostRuntime, path: &str) -> bool {
-    is_written(rt, path)
-        && is_only_read(rt, path)
-        && is_read(rt, path)
-        && fs::remove_file(&rt, path).is_ok()
-}
-
-/// Whether a file at a path of this process is.
-fn new_file_is_used(rt: HostRuntime) -> bool {
-    match scratch_path(&rt, "streams") {
-        Ok(path) => is_used(rt, path.as_str()),
-        Err(_) => false,
-    }
-}
-
 #[test]
 fn a_file_is_written_and_read(rt: HostRuntime) {
-    assert!(rt; new_file_is_used(rt));
+    let path = scratch_path(&rt, "streams").expect(&rt, "memory");
+    assert!(rt; is_written(rt, path.as_str()) && is_only_read(rt, path.as_str()));
+    assert!(rt; is_read(rt, path.as_str()));
+    assert!(rt; fs::remove_file(&rt, path.as_str()).is_ok());
 }

@@ -34,21 +34,10 @@ fn keeps_suites_apart<M: Manager>(alloc: Global, manager: &mut M) -> bool {
         && finds_known(alloc, manager, COMMITTING, 0, Served::Hit(1))
 }
 
-/// Whether a cache does. That no line of a journal is within its limits is proved.
-fn is_apart<M: Manager>(alloc: Global, cache: &mut CachingCmm<M>) -> bool {
-    cache.journal_within(&[]);
-    keeps_suites_apart(alloc, cache)
-}
-
-/// Whether a new cache does.
-fn cache_keeps_suites_apart(alloc: Global) -> bool {
-    match caching(alloc) {
-        Some(mut manager) => is_apart(alloc, &mut manager),
-        None => false,
-    }
-}
-
+/// That no line of a journal is within the limits of a new cache is proved.
 #[test]
 fn the_suite_is_a_part_of_the_name(rt: HostRuntime) {
-    assert!(rt; cache_keeps_suites_apart(rt.alloc()));
+    let mut cache = caching(rt.alloc()).expect(&rt, "memory");
+    cache.journal_within(&[]);
+    assert!(rt; keeps_suites_apart(rt.alloc(), &mut cache));
 }

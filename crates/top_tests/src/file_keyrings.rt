@@ -63,20 +63,9 @@ fn keyring_goes_by_the_file(rt: HostRuntime, path: &str) -> bool {
     }
 }
 
-/// Whether it does, and the file is taken away.
-fn file_is_gone_by(rt: HostRuntime, path: &str) -> bool {
-    keyring_goes_by_the_file(rt, path) && fs::remove_file(&rt, path).is_ok()
-}
-
-/// Whether the keyring of a file at a path of this process does.
-fn new_file_is_gone_by(rt: HostRuntime) -> bool {
-    match scratch_path(&rt, "key") {
-        Ok(path) => file_is_gone_by(rt, path.as_str()),
-        Err(_) => false,
-    }
-}
-
 #[test]
 fn another_key_in_the_file_is_gone_by_at_once(rt: HostRuntime) {
-    assert!(rt; new_file_is_gone_by(rt));
+    let path = scratch_path(&rt, "key").expect(&rt, "memory");
+    assert!(rt; keyring_goes_by_the_file(rt, path.as_str()));
+    assert!(rt; fs::remove_file(&rt, path.as_str()).is_ok());
 }

@@ -22,25 +22,11 @@ fn is_known<K: Keyring>(alloc: Global, keyring: &mut K) -> bool {
         && opened(alloc, keyring, &known_cipher()) == Some(true)
 }
 
-/// Whether a copy of a keyring is the known one, and finds nothing in no entry.
-fn copy_is_known(alloc: Global, ring: &RawAes) -> bool {
-    match ring.copy() {
-        Ok(mut copy) => is_known(alloc, &mut copy) && opens_nothing(alloc, &copy),
-        Err(_) => false,
-    }
-}
-
-/// Whether a copy of the known keyring is so.
-fn known_copy_is_known(alloc: Global) -> bool {
-    match known_ring(alloc) {
-        Some(ring) => copy_is_known(alloc, &ring),
-        None => false,
-    }
-}
-
 #[test]
 fn a_copy_takes_all_and_opens_the_same(rt: HostRuntime) {
-    assert!(rt; known_copy_is_known(rt.alloc()));
+    let ring = known_ring(rt.alloc()).expect(&rt, "memory");
+    let mut copy = ring.copy().expect(&rt, "memory");
+    assert!(rt; is_known(rt.alloc(), &mut copy) && opens_nothing(rt.alloc(), &copy));
 }
 
 /// A tree whose leaves are raw keys.
@@ -78,13 +64,16 @@ fn raised(alloc: Global, tree: Option<Tree>) -> Option<Tree> {
     }
 }
 
-/// So many levels of multi-keyrings above a raw key.
-fn nested(alloc: Global, levels: u32) -> Option<Tree> {
-    let mut tree = leaf(alloc);
-    for _ in 0..levels {
-        tree = raised(alloc, tree);
-    }
-    tree
+/// Two levels more.
+fn raised_twice(alloc: Global, tree: Option<Tree>) -> Option<Tree> {
+    raised(alloc, raised(alloc, tree))
+}
+
+/// A raw key under seven levels of multi-keyrings.
+fn eight_levels(alloc: Global) -> Option<Tree> {
+    let three = raised_twice(alloc, leaf(alloc));
+    let five = raised_twice(alloc, three);
+    raised(alloc, raised_twice(alloc, five))
 }
 
 /// Whether a multi-keyring of no members is refused as empty.
@@ -101,14 +90,6 @@ fn is_too_deep(alloc: Global, tree: Tree) -> bool {
         Multi::new(Some(tree), Vec::new(alloc)),
         Err(MultiError::TooDeep)
     )
-}
-
-/// Whether eight levels are so high, and one more is refused.
-fn ends_at_eight_levels(alloc: Global) -> bool {
-    match nested(alloc, 7) {
-        Some(tree) => tree.height() == 8 && is_too_deep(alloc, tree),
-        None => false,
-    }
 }
 
 /// Whether one more raw key has room among the children.
@@ -130,30 +111,17 @@ fn many(alloc: Global, count: u32) -> Option<Vec<Tree>> {
     Some(children)
 }
 
-/// How many entries these children make, where they are too many; 0 where they are taken. None
-/// where there are over 100.
-fn width_refused(children: Vec<Tree>) -> Option<u64> {
-    if children.len() > 100 {
-        return None;
-    }
-    match Multi::new(None, children) {
-        Ok(_) => Some(0),
-        Err(MultiError::TooWide(count)) => Some(count),
-        Err(_) => None,
-    }
+/// Whether these children are refused as making 65 entries.
+fn make_65_entries(children: Vec<Tree>) -> bool {
+    children.len() < 100 && matches!(Multi::new(None, children), Err(MultiError::TooWide(65)))
 }
 
-/// The same of so many raw keys.
-fn refused_width(alloc: Global, count: u32) -> Option<u64> {
-    match many(alloc, count) {
-        Some(children) => width_refused(children),
-        None => None,
-    }
-}
-
+/// That eight levels and 64 entries are taken is shown by the cases of keyring files.
 #[test]
 fn multi_keyrings_have_a_member_and_eight_levels_and_64_entries_at_most(rt: HostRuntime) {
-    assert!(rt; nothing_is_empty(rt.alloc()) && ends_at_eight_levels(rt.alloc()));
-    assert!(rt; refused_width(rt.alloc(), 64) == Some(0));
-    assert!(rt; refused_width(rt.alloc(), 65) == Some(65));
+    assert!(rt; nothing_is_empty(rt.alloc()));
+    let eight_levels = eight_levels(rt.alloc()).expect(&rt, "memory");
+    assert!(rt; is_too_deep(rt.alloc(), eight_levels));
+    let children = many(rt.alloc(), 65).expect(&rt, "memory");
+    assert!(rt; make_65_entries(children));
 }

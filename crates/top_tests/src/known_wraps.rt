@@ -128,7 +128,7 @@ fn known_entry(alloc: Global, cipher: &[u8; 48]) -> Option<DataKeyEntry> {
 }
 
 /// Whether the entry of this ciphertext stands behind the others now.
-pub(crate) fn pushed(alloc: Global, entries: &mut Vec<DataKeyEntry>, cipher: &[u8; 48]) -> bool {
+fn pushed(alloc: Global, entries: &mut Vec<DataKeyEntry>, cipher: &[u8; 48]) -> bool {
     match known_entry(alloc, cipher) {
         Some(entry) => entries.push(entry).is_ok(),
         None => false,

@@ -5,7 +5,7 @@ ghost use Rattle.multi_keyring.specs.Tree.{leaves, node_leaves};
 
 use crate::known_wraps::{
     TENANT, context_of, found, known_cipher, known_entries, known_ring, other_cipher, other_ring,
-    pushed, third_cipher, third_ring,
+    third_cipher, third_ring,
 };
 use context_codec::Context;
 use edk_codec::DataKeyEntry;
@@ -89,23 +89,10 @@ fn is_opened_by(alloc: Global, cipher: &[u8; 48], leaves: [bool; 3]) -> bool {
     }
 }
 
-/// Whether these wraps of all three keys stand in the row now.
-fn are_pushed(alloc: Global, entries: &mut Vec<DataKeyEntry>) -> bool {
-    pushed(alloc, entries, &known_cipher())
-        && pushed(alloc, entries, &other_cipher())
-        && pushed(alloc, entries, &third_cipher())
-}
-
-/// Whether each leaf finds the data key among the wraps of all three keys.
-fn all_are_opened(alloc: Global) -> bool {
-    let mut entries = Vec::new(alloc);
-    are_pushed(alloc, &mut entries) && are_opened_by(alloc, &entries, [true, true, true])
-}
-
+/// That each finds the data key among the wraps of all three is shown by the cases of audits.
 #[test]
 fn leaves_are_the_generator_the_child_and_the_plug(rt: HostRuntime) {
     assert!(rt; is_opened_by(rt.alloc(), &known_cipher(), [true, false, false]));
     assert!(rt; is_opened_by(rt.alloc(), &other_cipher(), [false, true, false]));
     assert!(rt; is_opened_by(rt.alloc(), &third_cipher(), [false, false, true]));
-    assert!(rt; all_are_opened(rt.alloc()));
 }

@@ -1,8 +1,8 @@
 //! The tests of the library's calls that no data of a program of cases shows: calls over real
 //! objects, as files, streams of std, generators and the system's clock; a desk by its calls, and a
-//! batch of which one call fails; each step of a sealer and of an opener, and what they answer behind
-//! an error; and calls that no words of the program reach. The crates of these calls have no tests of
-//! their own, and so each is proved once.
+//! batch of which one file can't be put in its place; each step of a sealer and of an opener, and
+//! what they answer behind an error; and calls that no words of the program reach. The crates of
+//! these calls have no tests of their own, and so each is proved once.
 #![tactic(auto)]
 
 #[cfg(test)]

@@ -5,7 +5,6 @@ use crate::asking::{COMMITTING, finds_known, gives_known, request_of, request_to
 use crate::caching::caching;
 use crate::known_wraps::known_ring;
 use crate::opening::known_manager;
-use cmm_caching::CachingCmm;
 use cmm_default::{DefaultCmm, HandedCmm};
 use cmm_required::RequiredCmm;
 use context_codec::KeySet;
@@ -34,17 +33,10 @@ fn boxed_manager_gives(alloc: Global, ring: RawAes) -> bool {
     }
 }
 
-/// Whether the manager of the known keyring does so in a box.
-fn known_boxed_manager_gives(alloc: Global) -> bool {
-    match known_ring(alloc) {
-        Some(ring) => boxed_manager_gives(alloc, ring),
-        None => false,
-    }
-}
-
 #[test]
 fn a_boxed_manager_gives_and_finds_directly(rt: HostRuntime) {
-    assert!(rt; known_boxed_manager_gives(rt.alloc()));
+    let ring = known_ring(rt.alloc()).expect(&rt, "memory");
+    assert!(rt; boxed_manager_gives(rt.alloc(), ring));
 }
 
 /// The set of this key. None where memory runs out.
@@ -161,32 +153,13 @@ fn misses_zone<M: Manager>(alloc: Global, manager: &mut M) -> bool {
     }
 }
 
-/// Whether a manager requires all three of who writes, and names `zone` to who reads.
-fn requires_and_misses<M: Manager>(alloc: Global, manager: &mut M) -> bool {
-    requires_all(alloc, manager) && misses_zone(alloc, manager)
-}
-
-/// Whether two managers require the keys of both beside the request's, of who writes and of who
-/// reads.
-fn requires_of_both(alloc: Global) -> bool {
-    match requires_two(alloc) {
-        Some(mut outer) => requires_and_misses(alloc, &mut outer),
-        None => false,
-    }
-}
-
-/// Whether the inner one comes back.
-fn inner_comes_back(alloc: Global) -> bool {
-    match requires_two(alloc) {
-        Some(outer) => misses_zone(alloc, &mut outer.into_inner()),
-        None => false,
-    }
-}
-
+/// Two managers require the keys of both beside the request's, of who writes and of who reads; and
+/// the inner one comes back.
 #[test]
 fn one_manager_over_another_requires_the_keys_of_both(rt: HostRuntime) {
-    assert!(rt; requires_of_both(rt.alloc()));
-    assert!(rt; inner_comes_back(rt.alloc()));
+    let mut outer = requires_two(rt.alloc()).expect(&rt, "memory");
+    assert!(rt; requires_all(rt.alloc(), &mut outer) && misses_zone(rt.alloc(), &mut outer));
+    assert!(rt; misses_zone(rt.alloc(), &mut outer.into_inner()));
 }
 
 /// Whether requests to encrypt come at their moments to a cache below, whose entries serve for ten
@@ -204,28 +177,10 @@ fn passes_on_to_decrypt<M: Manager>(alloc: Global, manager: &mut M) -> bool {
         && finds_known(alloc, manager, COMMITTING, 10, Served::New(4))
 }
 
-/// The manager that requires `tenant`, over a cache. None where memory runs out.
-fn over_a_cache(alloc: Global) -> Option<RequiredCmm<CachingCmm<DefaultCmm<RawAes>>>> {
-    match caching(alloc) {
-        Some(cache) => over(alloc, cache, "tenant"),
-        None => None,
-    }
-}
-
-/// Whether a manager passes the moments on to a cache below.
-fn passes_on<M: Manager>(alloc: Global, manager: &mut M) -> bool {
-    passes_on_to_encrypt(alloc, manager) && passes_on_to_decrypt(alloc, manager)
-}
-
-/// Whether the manager over a cache does.
-fn moments_are_passed_on(alloc: Global) -> bool {
-    match over_a_cache(alloc) {
-        Some(mut manager) => passes_on(alloc, &mut manager),
-        None => false,
-    }
-}
-
 #[test]
 fn the_moment_is_passed_on(rt: HostRuntime) {
-    assert!(rt; moments_are_passed_on(rt.alloc()));
+    let cache = caching(rt.alloc()).expect(&rt, "memory");
+    let mut manager = over(rt.alloc(), cache, "tenant").expect(&rt, "memory");
+    assert!(rt; passes_on_to_encrypt(rt.alloc(), &mut manager));
+    assert!(rt; passes_on_to_decrypt(rt.alloc(), &mut manager));
 }

@@ -56,9 +56,14 @@ fn gives<M: Manager>(
     }
 }
 
+/// The known message from one offset on, up to another.
+pub(crate) fn part(from: usize, to: usize) -> &'static [u8] {
+    NINE_BYTES.get(from..to).unwrap_or(&[])
+}
+
 /// The known message from this offset on.
 fn left_from(from: usize) -> &'static [u8] {
-    NINE_BYTES.get(from..).unwrap_or(&[])
+    part(from, NINE_BYTES.len())
 }
 
 /// Nothing is told of the materials.
@@ -74,8 +79,7 @@ fn tells_all(opener: &Opener) -> bool {
 /// Whether a step over all that is left behind the last byte but one of the header's tag takes that
 /// last byte alone, and the materials are told with it.
 fn tells_with_the_tag<M: Manager>(alloc: Global, opener: &mut Opener, manager: &mut M) -> bool {
-    let front = NINE_BYTES.get(..168).unwrap_or(&[]);
-    gives(alloc, opener, manager, front, 168, 0)
+    gives(alloc, opener, manager, part(0, 168), 168, 0)
         && tells_nothing(opener)
         && gives(alloc, opener, manager, left_from(168), 1, 0)
         && tells_all(opener)
@@ -94,27 +98,13 @@ fn ends_whole(opener: &mut Opener) -> bool {
     opener.is_whole() && opener.finish().is_ok() && opener.out().is_empty()
 }
 
-/// Whether an opener does all that.
-fn is_opened<M: Manager>(alloc: Global, opener: &mut Opener, manager: &mut M) -> bool {
-    tells_with_the_tag(alloc, opener, manager) && ends_with_each_frame(alloc, opener, manager)
-}
-
-/// Whether an opener does, and hands the whole context out.
-fn is_opened_unit_by_unit<M: Manager>(alloc: Global, mut opener: Opener, manager: &mut M) -> bool {
-    is_opened(alloc, &mut opener, manager) && opener.into_context().is_some()
-}
-
-/// Whether a new opener does so.
-fn new_opener_ends_with_each_unit(alloc: Global) -> bool {
-    match known_manager(alloc) {
-        Some(mut manager) => is_opened_unit_by_unit(alloc, new_opener(alloc), &mut manager),
-        None => false,
-    }
-}
-
 #[test]
 fn a_step_ends_with_the_header_or_with_a_unit(rt: HostRuntime) {
-    assert!(rt; new_opener_ends_with_each_unit(rt.alloc()));
+    let mut manager = known_manager(rt.alloc()).expect(&rt, "memory");
+    let mut opener = new_opener(rt.alloc());
+    assert!(rt; tells_with_the_tag(rt.alloc(), &mut opener, &mut manager));
+    assert!(rt; ends_with_each_frame(rt.alloc(), &mut opener, &mut manager));
+    assert!(rt; opener.into_context().is_some());
 }
 
 /// The opener was stopped before.
@@ -153,30 +143,9 @@ fn end_stops<M: Manager>(alloc: Global, opener: &mut Opener, manager: &mut M) ->
     opener.finish().is_err() && is_stopped(alloc, opener, manager)
 }
 
-/// Whether a refusal stops a new opener.
-fn refusal_stops_a_new_one<M: Manager>(alloc: Global, manager: &mut M) -> bool {
-    refusal_stops(alloc, &mut new_opener(alloc), manager)
-}
-
-/// Whether the end does.
-fn end_stops_a_new_one<M: Manager>(alloc: Global, manager: &mut M) -> bool {
-    end_stops(alloc, &mut new_opener(alloc), manager)
-}
-
-/// Whether both do.
-fn both_stop<M: Manager>(alloc: Global, manager: &mut M) -> bool {
-    refusal_stops_a_new_one(alloc, manager) && end_stops_a_new_one(alloc, manager)
-}
-
-/// Whether both do under the known keyring.
-fn errors_stop(alloc: Global) -> bool {
-    match known_manager(alloc) {
-        Some(mut manager) => both_stop(alloc, &mut manager),
-        None => false,
-    }
-}
-
 #[test]
 fn an_error_stops_the_opener(rt: HostRuntime) {
-    assert!(rt; errors_stop(rt.alloc()));
+    let mut manager = known_manager(rt.alloc()).expect(&rt, "memory");
+    assert!(rt; refusal_stops(rt.alloc(), &mut new_opener(rt.alloc()), &mut manager));
+    assert!(rt; end_stops(rt.alloc(), &mut new_opener(rt.alloc()), &mut manager));
 }

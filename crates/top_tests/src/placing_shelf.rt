@@ -38,14 +38,10 @@ impl PlacingShelf {
         }
     }
 
-    /// Whether the name that it can't finish was finished once, and so was one other.
+    /// Whether the name that it can't finish was finished once for anyone, and so was one other, and
+    /// one name for its owner alone.
     pub(crate) fn finished_each_once(&self) -> bool {
-        self.stuck == 1 && self.placed == 1 && self.owned == 0
-    }
-
-    /// Whether one name was finished once, for its owner alone, and no other was.
-    pub(crate) fn finished_for_its_owner(&self) -> bool {
-        self.stuck == 0 && self.placed == 0 && self.owned == 1
+        self.stuck == 1 && self.placed == 1 && self.owned == 1
     }
 
     /// Counts a fault.

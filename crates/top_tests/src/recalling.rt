@@ -112,26 +112,15 @@ fn is_moment(gave: Option<Recalled>, moment: u64) -> bool {
     }
 }
 
-/// Whether the manager behind a cache recalls this moment.
-fn recalls_behind(manager: Cached, moment: u64) -> bool {
-    is_moment(manager.into_inner().gave, moment)
-}
-
-/// Whether it recalls it once it was asked twice.
+/// Whether the manager behind a cache recalls this moment once it was asked twice.
 fn recalls(alloc: Global, mut manager: Cached, now: u64, served: Served, moment: u64) -> bool {
-    is_asked_twice(alloc, &mut manager, now, served) && recalls_behind(manager, moment)
-}
-
-/// Whether a new one does.
-fn new_recalls(alloc: Global, now: u64, served: Served, moment: u64) -> bool {
-    match new_cached(alloc) {
-        Some(manager) => recalls(alloc, manager, now, served, moment),
-        None => false,
-    }
+    is_asked_twice(alloc, &mut manager, now, served) && is_moment(manager.into_inner().gave, moment)
 }
 
 #[test]
 fn the_manager_behind_a_cache_recalls_what_it_was_asked(rt: HostRuntime) {
-    assert!(rt; new_recalls(rt.alloc(), 9, Served::Hit(1), 2));
-    assert!(rt; new_recalls(rt.alloc(), 12, Served::New(2), 12));
+    let served_again = new_cached(rt.alloc()).expect(&rt, "memory");
+    assert!(rt; recalls(rt.alloc(), served_again, 9, Served::Hit(1), 2));
+    let asked_again = new_cached(rt.alloc()).expect(&rt, "memory");
+    assert!(rt; recalls(rt.alloc(), asked_again, 12, Served::New(2), 12));
 }

@@ -90,22 +90,10 @@ fn steps_end_with_a_frame(sealer: &mut Sealer) -> bool {
         && gives(sealer, b"5", 1, 0)
 }
 
-/// Whether it does so, and its end stops it.
-fn steps_end(sealer: &mut Sealer) -> bool {
-    steps_end_with_a_frame(sealer) && ends(sealer)
-}
-
-/// Whether a new sealer does so.
-fn new_steps_end(alloc: Global) -> bool {
-    match begun(alloc, None) {
-        Some(mut sealer) => steps_end(&mut sealer),
-        None => false,
-    }
-}
-
 #[test]
 fn a_step_uses_a_piece_up_to_the_end_of_a_frame(rt: HostRuntime) {
-    assert!(rt; new_steps_end(rt.alloc()));
+    let mut sealer = begun(rt.alloc(), None).expect(&rt, "memory");
+    assert!(rt; steps_end_with_a_frame(&mut sealer) && ends(&mut sealer));
 }
 
 /// The error is Q10 with the number 3.
@@ -126,15 +114,8 @@ fn stops(sealer: &mut Sealer) -> bool {
     gives(sealer, b"1234", 3, 0) && step_is_refused(sealer) && is_stopped(sealer)
 }
 
-/// Whether it stops a new sealer.
-fn stops_behind_three(alloc: Global) -> bool {
-    match begun(alloc, Some(3)) {
-        Some(mut sealer) => stops(&mut sealer),
-        None => false,
-    }
-}
-
 #[test]
 fn a_byte_more_than_declared_stops_the_sealer(rt: HostRuntime) {
-    assert!(rt; stops_behind_three(rt.alloc()));
+    let mut sealer = begun(rt.alloc(), Some(3)).expect(&rt, "memory");
+    assert!(rt; stops(&mut sealer));
 }
