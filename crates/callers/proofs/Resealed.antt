@@ -35,7 +35,7 @@ use Rattle.reseal_core.specs.Front.{request_for}
 use Rattle.reseal_core.specs.Reseal as inputs
 use Rattle.reseal_core.specs.Reseal.{OpensFirst, Resealing, RefusesHeader, WritesNewMessage, ResealWritesFront}
 use Rattle.reseal_core.specs.Underway.{ResealErrorIsCalled}
-use Rattle.callers.specs.Resealing.{ResealerFails, ResealedBytesHaveFault, IsWholeAnd, OpensAnd}
+use Rattle.callers.specs.Resealing.{ResealsNot, ResealedBytesHaveFault, IsWholeAnd, OpensAnd}
 
 -- ---- bytes as an input that tells them
 
@@ -135,7 +135,7 @@ module _ (asked : Resealing) (random taken more : List ℕ) (output put : SinkSt
 
   refusal_so : (refusal : Refusal)
       → (inputs.RefusesMessage asked random (told (taken ++ more)) (left taken more) output put refusal ⊎ ((refusal ≡ TooManyFrames) × inputs.ResealNeedsTooManyFrames asked random (told (taken ++ more)) (left taken more) output put))
-      → ResealerFails asked random (taken ++ more) output put (reseals.Refusal refusal)
+      → ResealsNot asked random (taken ++ more) output put (reseals.Refusal refusal)
   refusal_so refusal (inl r) = inl (
     r.nothing,
     opens_so r.first r.whole r.only r.key (λ whole only text. asked.gives_none (request_for whole only) (managers.Refusal refusal) ⊎ RefusesHeader asked random whole only refusal) r.opens r.why,
@@ -152,12 +152,12 @@ module _ (asked : Resealing) (random taken more : List ℕ) (output put : SinkSt
       )
 
   sink_so : Rose output.faults put.faults × (inputs.FrontFails asked random (told (taken ++ more)) (left taken more) output put ⊎ inputs.ResealFinalFails asked random (told (taken ++ more)) (left taken more) output put)
-      → ResealerFails asked random (taken ++ more) output put reseals.SinkFault
+      → ResealsNot asked random (taken ++ more) output put reseals.SinkFault
   sink_so (rose, inl f) = (rose, inl (opens_so f.first f.whole f.only f.key _ f.opens (record { materials = f.materials; has = f.has; is = front_beyond output put _ _ f.last.was })))
   sink_so (rose, inr f) = (rose, inr (final_so f))
 
   keyring_so : ((DecryptManagerFails asked.opening (told (taken ++ more)) (left taken more) × SinkTakes output put []) ⊎ inputs.SealingFails asked (told (taken ++ more)) (left taken more) output put)
-      → ResealerFails asked random (taken ++ more) output put reseals.KeyringFault
+      → ResealsNot asked random (taken ++ more) output put reseals.KeyringFault
   keyring_so (inl (f, nothing)) = (
     nothing,
     inl (subst (λ (b : List ℕ). FailsTo asked.opening.manager asked.opening.settings asked.opening.given b) (sym (front_is f.bytes f.came))
@@ -168,13 +168,13 @@ module _ (asked : Resealing) (random taken more : List ℕ) (output put : SinkSt
   pub first_so : inputs.WritesFirst asked random (told (taken ++ more)) (left taken more) output put → OpensAnd asked (taken ++ more) (λ whole only text. ResealWritesFront asked random whole only text output put)
   first_so f = opens_so f.first f.whole f.only f.key (λ whole only text. ResealWritesFront asked random whole only text output put) f.opens f.front
 
-  memory_so : (SinkTakes output put [] ⊎ inputs.WritesFirst asked random (told (taken ++ more)) (left taken more) output put) → ResealerFails asked random (taken ++ more) output put reseals.Memory
+  memory_so : (SinkTakes output put [] ⊎ inputs.WritesFirst asked random (told (taken ++ more)) (left taken more) output put) → ResealsNot asked random (taken ++ more) output put reseals.Memory
   memory_so (inl nothing) = inl nothing
   memory_so (inr f) = inr (first_so f)
 
   -- what an error of a step comes to, as if the bytes were an input
   pub ends_so : (error : ResealError) → (error ≡ reseals.Stopped → ⊥) → ((named : InputError) → ResealErrorIsCalled error named → inputs.ResealEndsSo asked random (told (taken ++ more)) (left taken more) output put named)
-      → ResealerFails asked random (taken ++ more) output put error
+      → ResealsNot asked random (taken ++ more) output put error
   ends_so (reseals.Fault fault) not ends = fault_so fault (ends (errors.Fault fault) refl)
   ends_so (reseals.Refusal refusal) not ends = refusal_so refusal (ends (errors.Refusal refusal) refl)
   ends_so reseals.KeyringFault not ends = keyring_so (ends (errors.Outside outsides.KeyringFault) refl)

@@ -1,5 +1,5 @@
 -- A resealer that is fed pieces: what it has come to, and what it ends with.
-use Rattle.std.proofs.Common.{◌≡◌, ◌∙◌, ℕ, ◌+◌, ◌-◌, ◌*◌, ◌<◌, ◌≤◌, List, [], ◌++◌, length, take, drop, map, get_or, Bor, append_assoc, true, false, Option, Some, None, Ok, Err, inl, inr, refl, sym, ap, subst, arith, append-nil}
+use Rattle.std.proofs.Common.{◌≡◌, ◌∙◌, ℕ, ◌+◌, ◌-◌, ◌*◌, ◌<◌, ◌≤◌, List, [], ◌++◌, length, take, drop, map, get_or, Bor, append_assoc, true, false, Option, Some, None, Result, Ok, Err, IfOk, IfErr, inl, inr, refl, sym, ap, subst, arith, append-nil}
 use Rattle.std.specs.Io.KnownBytes.{Appends}
 use Rattle.std.proofs.KnownBytes.{Appends-trans}
 use Rattle.std.specs.List.{concat}
@@ -39,7 +39,7 @@ use Rattle.reseal_core.proofs.Stepping.{gains_all}
 use Rattle.reseal_core.proofs.RandomBytes.{one_random}
 use Rattle.reseal_core.proofs.Sessions.{concludes_err}
 use Rattle.reseal_core.proofs.StepEnds.{step_ends, unstopped}
-use Rattle.callers.specs.Resealing.{ResealerFails, ResealedBytesHaveFault, IsWholeAnd, OpensAnd, ResealsBytes}
+use Rattle.callers.specs.Resealing.{EndsResealing, ResealsNot, ResealedBytesHaveFault, IsWholeAnd, OpensAnd, ResealsBytes}
 use Rattle.callers.proofs.Resealed.{came_so, ends_so, first_so, left, told}
 
 -- ---- a step's part of a piece, of which so many bytes were taken
@@ -117,9 +117,9 @@ module _ {A B : Type 0} (opened : A → ManagerNow) (sealed : B → ManagerNow) 
   -- a step failed, and these bytes follow behind those that it was given
   pub step_fails : (rest more all : List ℕ) (last : A) (end : B) (now_put : SinkState) (next : Resealer) (unwritten : Type 0) → 1 ≤ length rest → length rest ≤ 65536 → (asked_header w rest ≡ None → last ≡ new) → (unwritten → now_put ≡ put)
       → (error : ResealError) → ResealerSteps (opened new) (opened last) (said_last (sealed after) (sealed end)) now v rest put now_put (end ≡ after) unwritten (Err error) next → (bytes ++ rest) ++ more ≡ all
-      → ResealerFails (resealing_from (opened old) (opened last) (sealed before) (sealed end) now settings given size) random all output now_put error
+      → ResealsNot (resealing_from (opened old) (opened last) (sealed before) (sealed end) now settings given size) random all output now_put error
   step_fails rest more all last end now_put next unwritten some few stays kept error s all_is =
-      subst (λ (b : List ℕ). ResealerFails (resealing_from (opened old) (opened last) (sealed before) (sealed end) now settings given size) random b output now_put error) all_is
+      subst (λ (b : List ℕ). ResealsNot (resealing_from (opened old) (opened last) (sealed before) (sealed end) now settings given size) random b output now_put error) all_is
       (ends_so (resealing_from (opened old) (opened last) (sealed before) (sealed end) now settings given size) random (bytes ++ rest) more output now_put error
       (λ stop. unstopped opened sealed now settings given size random bytes old new before after output put resealer r rest last end now_put next unwritten some stays
       (subst (λ (e : ResealError). ResealerSteps (opened new) (opened last) (said_last (sealed after) (sealed end)) now v rest put now_put (end ≡ after) unwritten (Err e) next) stop s))
@@ -146,12 +146,12 @@ module _ {A B : Type 0} (opened : A → ManagerNow) (sealed : B → ManagerNow) 
   wanting_by (Faulty fault) is none sound = absurd (let no : true ≡ false = sound in cc)
 
   -- the message isn't unlocked: more bytes are wanted
-  pub wants_more : whole_context w ≡ None → ResealerFails asked random bytes output put (reseals.Fault Truncated)
+  wants_more : whole_context w ≡ None → ResealsNot asked random bytes output put (reseals.Fault Truncated)
   wants_more none = wanting_by (judged_now w).verdict refl none r.fed.feeds.goes.sound
 
   -- ---- memory runs out
 
-  memory_by : (m : Option EncMaterialsValue) → r.materials ≡ m → ResealerFails asked random bytes output put reseals.Memory
+  memory_by : (m : Option EncMaterialsValue) → r.materials ≡ m → ResealsNot asked random bytes output put reseals.Memory
   memory_by None is = inl (gains_all output put [] (subst (λ (x : Option EncMaterialsValue). GainsBeyond output put [] (front_of x size random (content (judged_now w)))) is r.gained))
   memory_by (Some m) is =
       let first = writes_reached opened sealed now settings given size random bytes old new before after output put resealer r [] new after refl (λ none. refl) (told ((bytes ++ []) ++ [])) (left (bytes ++ []) [])
@@ -159,7 +159,7 @@ module _ {A B : Type 0} (opened : A → ManagerNow) (sealed : B → ManagerNow) 
       inr (subst (λ (b : List ℕ). OpensAnd asked b (λ whole only text. ResealWritesFront asked random whole only text output put)) (append-nil (bytes ++ []) ∙ append-nil bytes)
       (first_so asked random (bytes ++ []) [] output put first))
 
-  pub lacks_memory : ResealerFails asked random bytes output put reseals.Memory
+  lacks_memory : ResealsNot asked random bytes output put reseals.Memory
   lacks_memory = memory_by r.materials refl
 
   -- ---- the bytes are a whole message
@@ -192,7 +192,7 @@ module _ {A B : Type 0} (opened : A → ManagerNow) (sealed : B → ManagerNow) 
 
   module _ (last : SinkState) (unwritten : Type 0) where
     -- the new message was finished
-    pub finishes_so : (context : List KeyValue) → whole_context w ≡ Some context → ResealerFinishes v put last unwritten (Ok tt) → ResealsBytes asked random bytes output last context
+    finishes_so : (context : List KeyValue) → whole_context w ≡ Some context → ResealerFinishes v put last unwritten (Ok tt) → ResealsBytes asked random bytes output last context
     finishes_so context is (whole, (m, e, finishes)) =
         let gained = has_gained opened sealed now settings given size random bytes old new before after output put resealer r m e in
         subst (λ (c : List KeyValue). ResealsBytes asked random bytes output last c)
@@ -202,7 +202,7 @@ module _ {A B : Type 0} (opened : A → ManagerNow) (sealed : B → ManagerNow) 
           subst (λ (x : List ℕ). Appends output.written last.written x) (sym finishes.between) (Appends-trans output.written put.written last.written _ finishes.given gained.gained finishes.taken.gained),
         ))
 
-    sink_fails : ConcludesSo v put last (Err reseals.SinkFault) → ResealerFails asked random bytes output last reseals.SinkFault
+    sink_fails : ConcludesSo v put last (Err reseals.SinkFault) → ResealsNot asked random bytes output last reseals.SinkFault
     sink_fails (whole, (m, e, failed)) =
         let gained = has_gained opened sealed now settings given size random bytes old new before after output put resealer r m e in (
           omega (arith, failed.failed.rose, gained.faults),
@@ -214,7 +214,7 @@ module _ {A B : Type 0} (opened : A → ManagerNow) (sealed : B → ManagerNow) 
         )
 
     -- or it wasn't
-    pub finishes_not : (error : ResealError) → (unwritten → last ≡ put) → ResealerFinishes v put last unwritten (Err error) → ResealerFails asked random bytes output last error
+    finishes_not : (error : ResealError) → (unwritten → last ≡ put) → ResealerFinishes v put last unwritten (Err error) → ResealsNot asked random bytes output last error
     finishes_not (reseals.Fault fault) kept ends =
         let so = concludes_err v put last unwritten (reseals.Fault fault) (errors.Fault fault) r.fed.feeds.goes kept ends refl in
         subst (λ (s : SinkState). ResealedBytesHaveFault asked random bytes output s fault) (sym so.1) (fault_here fault so.0)
@@ -224,3 +224,16 @@ module _ {A B : Type 0} (opened : A → ManagerNow) (sealed : B → ManagerNow) 
     finishes_not reseals.KeyringFault kept (whole, (m, is, none)) = absurd none
     finishes_not reseals.Stopped kept (whole, (m, is, none)) = absurd none
     finishes_not reseals.Memory kept (whole, (m, is, none)) = absurd none
+
+    -- the resealer was ended
+    pub ends_whole : (result : Result (List KeyValue) ResealError) → EndsResealing v put last unwritten result → IfOk result (ResealsBytes asked random bytes output last)
+    ends_whole (Ok context) (is, ends) = finishes_so context is ends
+    ends_whole (Err error) ends = tt
+
+    pub ends_not : (unwritten → last ≡ put) → (result : Result (List KeyValue) ResealError) → EndsResealing v put last unwritten result → IfErr result (ResealsNot asked random bytes output last)
+    ends_not kept (Ok context) ends = tt
+    ends_not kept (Err error) (inl (inl (is, none), same)) =
+        subst (λ (s : SinkState). ResealsNot asked random bytes output s error) (sym (kept same)) (subst (λ (e : ResealError). ResealsNot asked random bytes output put e) (sym is) (wants_more none))
+    ends_not kept (Err error) (inl (inr is, same)) =
+        subst (λ (s : SinkState). ResealsNot asked random bytes output s error) (sym (kept same)) (subst (λ (e : ResealError). ResealsNot asked random bytes output put e) (sym is) lacks_memory)
+    ends_not kept (Err error) (inr ends) = finishes_not error kept ends

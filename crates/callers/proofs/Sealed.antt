@@ -1,11 +1,13 @@
 -- A sealer that is fed pieces, and what it gives, which is put into an output.
-use Rattle.std.proofs.Common.{◌≡◌, ◌∙◌, ℕ, ◌≤◌, List, [], ◌++◌, Option, None, Ok, refl, sym, ap, subst}
+use Rattle.std.proofs.Common.{◌≡◌, ◌∙◌, ℕ, ◌≤◌, List, [], ◌++◌, Option, None, Result, Ok, Err, OnOk, refl, sym, ap, subst}
 use Rattle.std.specs.Io.KnownBytes.{Appends}
 use Rattle.std.proofs.KnownBytes.{Appends-trans}
+use Rattle.esdk_base.specs.declared.receiver.FeedError.{FeedError}
 use Rattle.esdk_base.specs.declared.source.Failed.{Failed}
 use Rattle.esdk_base.specs.Receiver.{SinkFails, SinkTakes}
 use Rattle.esdk_base.specs.Streams.{SinkState}
 use Rattle.keyring_trait.specs.Materials.{EncMaterialsValue}
+use Rattle.stream_seal.specs.declared.errors.SealError.{SealError}
 use Rattle.stream_seal.specs.declared.session.Sealer.{Sealer}
 use Rattle.stream_seal.specs.Feeding.{SealerIsFed, IsFeeding, fed, fed_out, given_so_far}
 use Rattle.stream_seal.specs.Receiving.{FeedsSealerPiece, SealerFinishes}
@@ -63,9 +65,10 @@ module _ {R : Type 0} (state : R → SinkState) (m : EncMaterialsValue) (size : 
       }
 
   -- the message was finished
-  pub sealing_ends : ((v : SealingValue) → Stands old v → SealerFinishes {T = Unit {0}} (λ a b bytes. SinkTakes (state a) (state b) bytes)
-      (λ a b bytes (error : Failed). SinkFails (state a) (state b) bytes) v mid after (Ok tt)) → Appends before (state after).written (message_of m size id text)
-  sealing_ends ends =
+  pub sealing_ends : (result : Result (Unit {0}) (FeedError SealError Failed)) → ((v : SealingValue) → Stands old v → SealerFinishes (λ a b bytes. SinkTakes (state a) (state b) bytes)
+      (λ a b bytes (error : Failed). SinkFails (state a) (state b) bytes) v mid after result) → OnOk result (Appends before (state after).written (message_of m size id text))
+  sealing_ends (Err error) ends = tt
+  sealing_ends (Ok done) ends =
       let v : SealingValue = sealing.session in
       let whole : given_so_far v ++ (sealing_finished v).out ≡ message_of m size id text =
       finishes v sealing.is_fed ∙ (λ i. message_of (sealing.materials i) (sealing.size i) (sealing.id i) (sealing.taken i)) in

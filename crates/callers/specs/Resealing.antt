@@ -1,9 +1,10 @@
 -- What a caller's loop over a resealer comes to. `bytes` are all pieces, one behind the other.
 use Rattle.std.specs.Prelude.{◌≡◌, ◌⊎◌, ℕ, ◌+◌, ◌*◌, ◌<◌, ◌≤◌, List, [], ◌++◌, length, take, true}
-use Rattle.std.specs.Prelude.{Some, None}
+use Rattle.std.specs.Prelude.{Result, Ok, Err, Some, None}
 use Rattle.std.specs.Io.KnownBytes.{Appends}
 use Rattle.esdk_fields.specs.Counts.{Rose}
 use Rattle.esdk_fields.specs.declared.faults.Fault.{Fault}
+use Rattle.esdk_fields.specs.declared.faults.Fault.TheVariants.{Truncated}
 use Rattle.esdk_fields.specs.declared.refusals.Refusal.TheVariants.{TooManyFrames}
 use Rattle.esdk_base.specs.Receiver.{SinkTakes}
 use Rattle.esdk_base.specs.Sink.{AppendsFront}
@@ -16,6 +17,7 @@ use Rattle.keyring_trait.specs.Materials.{EncMaterialsValue}
 use Rattle.keyring_trait.specs.Unlocking.{Unlocking, Unlocks}
 use Rattle.body_format.specs.declared.verdicts.Verdict.TheVariants.{Whole}
 use Rattle.message_format.specs.Judgement.{content, judged}
+use Rattle.stream_open.specs.Session.{whole_context}
 use Rattle.stream_seal.specs.Start.{message_of, most_text, drawn_id}
 use Rattle.esdk_encrypt.specs.Encrypt.{written_so_far}
 use Rattle.esdk_decrypt.specs.Decrypt.{AnswersTo, FailsTo, fault_at_end, fault_of}
@@ -25,10 +27,9 @@ use Rattle.reseal_core.specs.declared.resealer.Resealer.{Resealer}
 use Rattle.reseal_core.specs.Front.{request_for}
 use Rattle.reseal_core.specs.Reseal.{HasMaterials, Resealing, RefusesHeader, WritesNewMessage}
 use Rattle.reseal_core.specs.Reseal.{ResealWritesFront}
-use Rattle.reseal_core.specs.Session.{new_resealing_session}
+use Rattle.reseal_core.specs.Session.{ResealingValue, new_resealing_session}
+use Rattle.reseal_core.specs.Stands.{ResealerFinishes}
 use Rattle.reseal_core.specs.Underway.{Reached}
-use Rattle.callers.specs.declared.errors.CallError.{CallError}
-use Rattle.callers.specs.declared.errors.CallError.TheVariants as calls
 
 -- ---- all pieces
 
@@ -94,41 +95,32 @@ pub record HasFrontAnd (asked : Resealing) (random : List ℕ) (so : List ℕ �
   pub is : so (written_so_far materials asked.size (drawn_id random)
       (take (most_text asked.size) text))
 
--- why the resealer failed, and what was written
-abbrev pub ResealerFails : Resealing → List ℕ → List ℕ → SinkState → SinkState → ResealError
+-- why the pieces aren't resealed, and what was written
+abbrev pub ResealsNot : Resealing → List ℕ → List ℕ → SinkState → SinkState → ResealError
     → Type 0
-ResealerFails asked random bytes output put (reseals.Fault fault) =
+ResealsNot asked random bytes output put (reseals.Fault fault) =
     ResealedBytesHaveFault asked random bytes output put
     fault
-ResealerFails asked random bytes output put (reseals.Refusal refusal) =
+ResealsNot asked random bytes output put (reseals.Refusal refusal) =
     (SinkTakes output put [] × OpensAnd asked bytes
     (λ whole only text. asked.gives_none (request_for whole only) (managers.Refusal refusal)
     ⊎ RefusesHeader asked random whole only refusal))
     ⊎ ((refusal ≡ TooManyFrames) × OpensAnd asked bytes
     (λ whole only text. (most_text asked.size < length text) × HasFrontAnd asked random
     (λ front. Appends output.written put.written front) whole only text))
-ResealerFails asked random bytes output put reseals.KeyringFault = SinkTakes output put []
+ResealsNot asked random bytes output put reseals.KeyringFault = SinkTakes output put []
     × (FailsTo asked.opening.manager asked.opening.settings asked.opening.given bytes
     ⊎ OpensAnd asked bytes
     (λ whole only text. asked.gives_none (request_for whole only) managers.KeyringFault))
-ResealerFails asked random bytes output put reseals.SinkFault = Rose output.faults put.faults
+ResealsNot asked random bytes output put reseals.SinkFault = Rose output.faults put.faults
     × (OpensAnd asked bytes (HasFrontAnd asked random
     (λ front. AppendsFront output.written put.written front))
     ⊎ ((context : List KeyValue) × IsWholeAnd asked random bytes
     (λ text message. AppendsFront output.written put.written message) context))
-ResealerFails asked random bytes output put reseals.Stopped = ⊥
-ResealerFails asked random bytes output put reseals.Memory = SinkTakes output put []
+ResealsNot asked random bytes output put reseals.Stopped = ⊥
+ResealsNot asked random bytes output put reseals.Memory = SinkTakes output put []
     ⊎ OpensAnd asked bytes (λ whole only text. ResealWritesFront asked random whole only text output
     put)
-
--- why the pieces aren't resealed, and what was written
-abbrev pub ResealsNot : Resealing → List ℕ → List ℕ → SinkState → SinkState → CallError → Type 0
-ResealsNot asked random bytes output put (calls.Reseal error) =
-    ResealerFails asked random bytes output put
-    error
-ResealsNot asked random bytes output put calls.Memory = ResealerFails asked random bytes output put
-    reseals.Memory
-ResealsNot asked random bytes output put error = ⊥
 
 -- ---- the resealer
 
@@ -148,3 +140,15 @@ pub record IsUnderway {A B : Type 0} (opened : A → ManagerNow) (sealed : B →
       first
       opening begun sealing before output resealer
   pub count : length random ≡ 64 + 12 * (sealed sealing).meaning.wraps
+
+-- What ending it comes to. At Ok the answer is the whole context, and the new message was finished.
+-- At an error finishing it failed; or it wasn't begun and nothing was written, since the old
+-- message isn't unlocked and so wants more bytes, or since memory ran out.
+abbrev pub EndsResealing : ResealingValue → SinkState → SinkState → Type 0
+    → Result (List KeyValue) ResealError → Type 0
+EndsResealing v output put unwritten (Ok context) = (whole_context v.opening ≡ Some context)
+    × ResealerFinishes v output put unwritten (Ok tt)
+EndsResealing v output put unwritten (Err error) =
+    ((((error ≡ reseals.Fault Truncated) × (whole_context v.opening ≡ None))
+    ⊎ (error ≡ reseals.Memory)) × unwritten)
+    ⊎ ResealerFinishes v output put unwritten (Err error)

@@ -4,8 +4,7 @@ ghost use Rattle.std.specs.Prelude.{◌<◌, ◌^◌, length, IfOk};
 ghost use Rattle.multi_keyring.specs.Tree.{node_leaves};
 ghost use Rattle.audit_core.specs.Asking.{NamesOpeners};
 
-use crate::errors::CallError;
-use audit_core::audit_one;
+use audit_core::{AuditError, audit_one};
 use context_codec::Context;
 use header_codec::Header;
 use keyring_trait::Keyring;
@@ -21,10 +20,10 @@ pub(crate) fn openers_of<P: Keyring>(
     tree: &mut Node<P>,
     header: &Header,
     given: &Context,
-) -> Result<Vec<u32>, CallError>
+) -> Result<Vec<u32>, AuditError>
     requires { length (node_leaves P.meaning tree.old) < 2 ^ 32 }
     ensures openers { IfOk result (λ openers. NamesOpeners (node_leaves P.meaning tree.old)
         (node_leaves P.meaning tree.new) header.now given.now openers.items) }
 {
-    Ok(audit_one(alloc, tree, header, given)?)
+    audit_one(alloc, tree, header, given)
 }

@@ -4,10 +4,9 @@ ghost use Rattle.std.specs.Prelude.{◌≤◌, ◌^◌, IfOk};
 ghost use Rattle.esdk_decrypt.specs.Decrypt.{asked_from};
 ghost use Rattle.extract_core.specs.Extract.{Extracts, range_of};
 
-use crate::errors::CallError;
 use context_codec::Context;
 use esdk_base::{Shelf, Sink};
-use extract_core::extract;
+use extract_core::{ExtractError, extract};
 use header_codec::Settings;
 use keyring_trait::Manager;
 use std::alloc::Global;
@@ -31,7 +30,7 @@ pub(crate) fn extract_range<M: Manager, F: Shelf, O: Sink>(
     at: u64,
     count: u64,
     output: &mut O,
-) -> Result<u64, CallError>
+) -> Result<u64, ExtractError>
     requires at { at ≤ 2 ^ 62 }
     requires count { count ≤ 2 ^ 62 }
     ensures range { IfOk result (Extracts
@@ -39,7 +38,7 @@ pub(crate) fn extract_range<M: Manager, F: Shelf, O: Sink>(
         (range_of at count) (F.state shelf.old) (F.state shelf.new) name.now
         (O.state output.old) (O.state output.new)) }
 {
-    Ok(extract(
+    extract(
         alloc, manager, now, shelf, name, output, settings, given, at, count,
-    )?)
+    )
 }

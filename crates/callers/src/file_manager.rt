@@ -5,11 +5,10 @@ ghost use Rattle.keyring_file.specs.Found.{wraps_of};
 ghost use Rattle.keyring_file.specs.KeyFile.{tree_of};
 ghost use Rattle.multi_keyring.specs.Nodes.{forest};
 
-use crate::errors::CallError;
 use cmm_default::DefaultCmm;
 use cmm_required::RequiredCmm;
 use context_codec::KeySet;
-use keyring_file::{Plug, read_tree};
+use keyring_file::{Plug, TreeError, read_tree};
 use keyring_trait::Keyring;
 use multi_keyring::Node;
 use std::alloc::Global;
@@ -21,7 +20,7 @@ pub(crate) fn file_manager<P: Keyring>(
     file: &[u8],
     plug: Plug<P>,
     required: KeySet,
-) -> Result<RequiredCmm<DefaultCmm<Node<P>>>, CallError>
+) -> Result<RequiredCmm<DefaultCmm<Node<P>>>, TreeError>
     ensures tree { IfOk result (λ manager.
         tree_of (wraps_of P.meaning) file.now (plug ∷ []) ≡ Ok (forest (manager.0 ∷ []))) }
     ensures required { IfOk result (λ manager. manager.1 ≡ required) }

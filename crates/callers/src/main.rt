@@ -7,9 +7,9 @@
 
 mod auditing;
 mod cached_manager;
-mod errors;
 mod extracting;
 mod file_manager;
+mod known;
 mod opening;
 mod own_keyring;
 mod resealing;
@@ -23,21 +23,26 @@ use std::io;
 /// Prints of each caller whether it did what it is for.
 fn main(rt: HostRuntime) -> io::Result<()> {
     let alloc = rt.alloc();
-    println!(rt; "seal_pieces: {}", shown::seals(alloc))?;
-    println!(rt; "open_pieces: {}", shown::opens(alloc))?;
-    println!(rt; "reseal_pieces: {}", shown_resealing::reseals(alloc))?;
-    println!(rt;
-        "reseal_pieces, another key: {}",
-        shown_resealing::rotates(alloc)
-    )?;
-    println!(rt;
-        "reseal_pieces, a cut message: {}",
-        shown_resealing::reseals_a_front(alloc)
-    )?;
-    println!(rt; "CountedRing: {}", shown::counts(alloc))?;
-    println!(rt; "cached_manager: {}", shown::caches(alloc))?;
-    println!(rt; "file_manager: {}", shown::reads_a_file(alloc))?;
-    println!(rt; "extract_range: {}", shown_files::extracts(alloc))?;
-    println!(rt; "openers_of: {}", shown_files::audits(alloc))?;
+    let callers = [
+        ("seal_pieces", shown::seals(alloc)),
+        ("open_pieces", shown::opens(alloc)),
+        ("reseal_pieces", shown_resealing::reseals(alloc)),
+        (
+            "reseal_pieces, another key",
+            shown_resealing::rotates(alloc),
+        ),
+        (
+            "reseal_pieces, a cut message",
+            shown_resealing::reseals_a_front(alloc),
+        ),
+        ("CountedRing", shown::counts(alloc)),
+        ("cached_manager", shown::caches(alloc)),
+        ("file_manager", shown::reads_a_file(alloc)),
+        ("extract_range", shown_files::extracts(alloc)),
+        ("openers_of", shown_files::audits(alloc)),
+    ];
+    for (name, works) in &callers {
+        println!(rt; "{name}: {works}")?;
+    }
     Ok(())
 }

@@ -5,9 +5,8 @@ ghost use Rattle.std.specs.List.{concat};
 ghost use Rattle.header_codec.specs.Header.{no_limits};
 ghost use Rattle.callers.specs.Opening.{OpensWholeBytes};
 
-use crate::errors::CallError;
 use context_codec::Context;
-use esdk_base::Sink;
+use esdk_base::{Failed, FeedError, Sink};
 use esdk_fields::Fault;
 use header_codec::Settings;
 use keyring_trait::Manager;
@@ -28,7 +27,7 @@ pub(crate) fn open_pieces<M: Manager, O: Sink>(
     now: u64,
     pieces: &[&[u8]],
     output: &mut O,
-) -> Result<Context, CallError>
+) -> Result<Context, FeedError<OpenError, Failed>>
     ensures whole { IfOk result (λ context. OpensWholeBytes no_limits
         (concat (map (λ piece. piece.now) pieces.now)) context
         (O.state output.old).written (O.state output.new).written) }
@@ -37,10 +36,12 @@ pub(crate) fn open_pieces<M: Manager, O: Sink>(
     for piece in pieces {
         opener.feed(alloc, manager, now, piece, output)?;
     }
-    opener.finish()?;
+    if let Err(error) = opener.finish() {
+        return Err(FeedError::Machine(error));
+    }
     match opener.into_context() {
         Some(context) => Ok(context),
         // There is none only where the header wasn't unlocked; then more bytes were wanted.
-        None => Err(CallError::Open(OpenError::Fault(Fault::Truncated))),
+        None => Err(FeedError::Machine(OpenError::Fault(Fault::Truncated))),
     }
 }

@@ -1,16 +1,17 @@
 //! A message that comes in pieces, resealed.
 
-ghost use Rattle.std.specs.Prelude.{◌≡◌, ◌+◌, ◌*◌, ◌≤◌, ◌++◌, ℕ, List, length, map, IfOk, IfErr};
+ghost use Rattle.std.specs.Prelude.{◌≡◌, ◌+◌, ◌*◌, ◌≤◌, ◌++◌, ℕ, List, false, length, map};
+ghost use Rattle.std.specs.Prelude.{IfOk, IfErr};
 ghost use Rattle.std.specs.List.{concat};
 ghost use Rattle.context_codec.specs.Context.{KeyValue};
 ghost use Rattle.header_codec.specs.declared.settings.Settings.{Settings};
 ghost use Rattle.esdk_base.specs.Streams.{SinkState};
 ghost use Rattle.reseal_core.specs.Reseal.{resealing_from};
-ghost use Rattle.reseal_core.specs.Session.{new_resealing_session};
+ghost use Rattle.reseal_core.specs.Session.{ResealingValue, new_resealing_session};
+ghost use Rattle.reseal_core.specs.Stands.{Stands};
 ghost use Rattle.reseal_core.specs.Underway.{Reached};
-ghost use Rattle.callers.specs.Resealing.{IsUnderway, ResealsBytes, ResealsNot};
+ghost use Rattle.callers.specs.Resealing.{EndsResealing, IsUnderway, ResealsBytes, ResealsNot};
 
-use crate::errors::CallError;
 use context_codec::Context;
 use esdk_base::Sink;
 use esdk_fields::Fault;
@@ -40,7 +41,7 @@ pub(crate) fn reseal_pieces<A: Manager, B: Manager, O: Sink>(
     random: &[u8],
     pieces: &[&[u8]],
     output: &mut O,
-) -> Result<Context, CallError>
+) -> Result<Context, ResealError>
     requires wide { 1 ≤ options.frame_length }
     requires random { length random.now ≡ 64 + 12 * (B.state sealing.old).meaning.wraps }
     ensures whole { IfOk result (ResealsBytes
@@ -55,7 +56,9 @@ pub(crate) fn reseal_pieces<A: Manager, B: Manager, O: Sink>(
         (O.state output.old) (O.state output.new)) }
 {
     let length = options.frame_length;
-    let mut resealer = Resealer::new(alloc, options.settings, given, length, random)?;
+    let Ok(mut resealer) = Resealer::new(alloc, options.settings, given, length, random) else {
+        return Err(ResealError::Memory);
+    };
     for piece in pieces {
         take_piece(
             alloc,
@@ -67,12 +70,27 @@ pub(crate) fn reseal_pieces<A: Manager, B: Manager, O: Sink>(
             output,
         )?;
     }
+    finished(alloc, &mut resealer, output)
+}
+
+/// Ends a resealer that took all pieces, and answers the whole context.
+fn finished<O: Sink>(
+    alloc: Global,
+    resealer: &mut Resealer,
+    output: &mut O,
+) -> Result<Context, ResealError>
+    ensures { (v : ResealingValue) → Stands resealer.old v → v.stopped ≡ false
+        → EndsResealing v (O.state output.old) (O.state output.new) (output.new ≡ output.old)
+        result }
+{
     // Where the message isn't unlocked yet, more bytes are wanted. The context is copied before the
     // end: once the new message is whole, no call may fail.
     let Some(context) = resealer.context() else {
-        return Err(CallError::Reseal(ResealError::Fault(Fault::Truncated)));
+        return Err(ResealError::Fault(Fault::Truncated));
     };
-    let context = context.copy(alloc)?;
+    let Ok(context) = context.copy(alloc) else {
+        return Err(ResealError::Memory);
+    };
     resealer.finish(output)?;
     Ok(context)
 }
@@ -86,7 +104,7 @@ fn take_piece<A: Manager, B: Manager, O: Sink>(
     resealer: &mut Resealer,
     piece: &[u8],
     output: &mut O,
-) -> Result<(), CallError>
+) -> Result<(), ResealError>
     requires { IsUnderway A.state B.state now opening.old sealing.old (O.state output.old)
         resealer.old }
     ensures taken { (settings : Settings) (given : List KeyValue) (size : ℕ) (random bytes : List ℕ)

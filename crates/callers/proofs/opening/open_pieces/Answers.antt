@@ -17,8 +17,8 @@ loop-piece-preserved g c =
 pub returns-in-Some : goal.returns-in-Some
 returns-in-Some g c =
     let taken = rw (take_all c.loop-piece.piece-index c.args.pieces.now c.loop-piece-test.false) at c.loop-piece.invariant in
-    let finish = c.finish.ensures in
+    let finish = c.in_default.ensures in
     record {
-      whole = opens_whole no_limits _ _ _ c.loop-piece.opener c.in-Some.context taken (sym (finish.answer taken.session taken.stands) ∙ c.in_ok-finish.was)
+      whole = opens_whole no_limits _ _ _ c.loop-piece.opener c.in-Some.context taken (sym (finish.answer taken.session taken.stands))
           (sym (c.into_context.ensures (opening_finished taken.session) (finish.stands taken.session taken.stands)) ∙ c.in-Some.is);
     }

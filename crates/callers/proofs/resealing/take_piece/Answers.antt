@@ -1,9 +1,11 @@
 use Rattle.std.proofs.Common.{◌≡◌, ◌∙◌, ◌+◌, ◌-◌, ◌*◌, ◌++◌, ℕ, List, drop, take, refl, sym, ap, subst, arith}
 use Rattle.esdk_decrypt.proofs.Concluding.{passed_on}
+use Rattle.reseal_core.specs.declared.errors.ResealError.{ResealError}
+use Rattle.reseal_core.specs.Reseal.{resealing_from}
 use Rattle.reseal_core.specs.Session.{gone_on, new_resealing_session}
 use Rattle.reseal_core.specs.Underway.{Reached}
 use Rattle.reseal_core.proofs.StepEnds.{steps_fed}
-use Rattle.callers.specs.declared.errors.CallError.TheVariants.{Reseal}
+use Rattle.callers.specs.Resealing.{ResealsNot}
 use Rattle.callers.proofs.ResealedPieces.{part, random_enough, step_fails}
 use Rattle.callers.proofs.resealing.take_piece.Goals as goal
 
@@ -26,7 +28,8 @@ returns-in_err-used-clause-cause g c = λ settings given size random bytes first
     let rest : List ℕ = take room (drop c.steps.taken c.args.piece.now) in
     let p = part c.args.piece.now c.steps.taken room c.steps-test.true (omega (arith, c.min-room.ensures, c.steps-test.true)) (omega (arith, c.min-room.ensures)) (omega (arith, c.min-room.ensures)) in
     let r = c.steps.invariant.reached settings given size random bytes first begun before reached in
-    passed_on _ c.from_residual.result (Reseal c.in_err-used.field-0.0) c.from_residual.ensures.1
+    passed_on (λ (error : ResealError). ResealsNot (resealing_from (g.A.Manager.state first) (g.A.Manager.state c.step.new.opening) (g.B.Manager.state begun) (g.B.Manager.state c.step.new.sealing) c.args.now settings given size) random ((bytes ++ c.args.piece.now) ++ more) before (g.O.Sink.state c.step.new.output) error)
+    c.from_residual.result c.in_err-used.field-0.0 c.from_residual.ensures.1
     (step_fails g.A.Manager.state g.B.Manager.state c.args.now settings given size random (bytes ++ take c.steps.taken c.args.piece.now) first c.steps.opening begun c.steps.sealing before (g.O.Sink.state c.steps.output) c.steps.resealer r rest
     (p.behind ++ more) ((bytes ++ c.args.piece.now) ++ more) c.step.new.opening c.step.new.sealing (g.O.Sink.state c.step.new.output) c.step.new.self (c.step.new.output ≡ c.steps.output) p.some p.few
     (c.step.ensures.unasked (gone_on (new_resealing_session settings given size random) r.fed.session r.materials) r.stands) (ap g.O.Sink.state) c.in_err-used.field-0.0

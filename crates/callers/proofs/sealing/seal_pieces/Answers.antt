@@ -7,8 +7,8 @@ use Rattle.callers.proofs.sealing.seal_pieces.Goals as goal
 
 pub loop-piece-init : goal.loop-piece-init
 loop-piece-init g c =
-    let stands = c.in_ok-sealer.ensures.stands in
-    sealing_first c.args.materials.now c.args.frame_length c.args.message_id.now _ _ c.in_ok-sealer.sealer c.header.result.now c.requires.some stands (c.header.ensures (new_sealing_session c.args.materials.now None c.args.frame_length c.args.message_id.now) stands) c.in_ok-put.ensures.bytes
+    let stands = c.in-Ok.ensures.stands in
+    sealing_first c.args.materials.now c.args.frame_length c.args.message_id.now _ _ c.in-Ok.sealer c.header.result.now c.requires.some stands (c.header.ensures (new_sealing_session c.args.materials.now None c.args.frame_length c.args.message_id.now) stands) c.in_default.ensures.bytes
 
 pub loop-piece-preserved : goal.loop-piece-preserved
 loop-piece-preserved g c =
@@ -18,5 +18,5 @@ loop-piece-preserved g c =
 pub returns : goal.returns
 returns g c = record {
   message = sealing_ends g.O.Sink.state c.args.materials.now c.args.frame_length c.args.message_id.now _ _ _ _ _
-      (rw (take_all c.loop-piece.piece-index c.args.pieces.now c.loop-piece-test.false) at c.loop-piece.invariant) c.in_ok-finish_into.ensures.ends;
+      (rw (take_all c.loop-piece.piece-index c.args.pieces.now c.loop-piece-test.false) at c.loop-piece.invariant) c.finish_into.result c.finish_into.ensures.ends;
 }
