@@ -21,10 +21,10 @@ bool calls_hkdf512(SLICE, SLICE, SLICE, ROOM);
 uint8_t calls_table(SLICE, SLICE);
 uint64_t calls_branch(SLICE, SLICE);
 
-enum { LONGEST = 8400 };
+enum { LONGEST = 65536 };
 static uint8_t key[32], iv[12], first[32], second[40], text[LONGEST], tag[16];
 static const size_t lengths[] = {0, 1, 15, 16, 17, 31, 32, 33, 47, 48, 49, 63, 64, 65, 96, 111, 112,
-    113, 127, 128, 129, 175, 176, 177, 255, 256, 257, 300, 511, 512, 4095, 4096, 4097, 8400};
+    113, 127, 128, 129, 175, 176, 177, 255, 256, 257, 300, 511, 512, 4095, 4096, 4097, 8400, 65536};
 static int wrong;
 
 /* What is marked. */
