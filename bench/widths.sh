@@ -21,7 +21,8 @@ time_width() {
     fi
 }
 
-# Each round: the ciphers of both widths, OpenSSL without AES instructions, and each program over 64 MiB, in a folder of their own.
+# Each round: the ciphers of both widths, and those of `times_before`, OpenSSL without AES instructions, and each program over
+# 64 MiB, in a folder of their own.
 measure_widths() (
     local i each name
     mkdir widths
@@ -30,11 +31,13 @@ measure_widths() (
     [ -x "$wide" ] || { echo "bench/run: there is no program $wide: ./esdk wide builds it" >&2; exit 70; }
     time_width times_of_16_bytes
     WIDE=1 time_width times_of_32_bytes
+    [ -z "$kept" ] || [ ! -x "$kept/times_before" ] || cp "$kept/times_before" .
     head -c 67108864 /dev/urandom >plain
     "$program" encrypt --keyring ring <plain >message
     for ((i = 0; i < long_runs; i++)); do
         ./times_of_16_bytes | sed 's/^/16 /' >>kernels
         ./times_of_32_bytes | sed 's/^/32 /' >>kernels
+        [ ! -x times_before ] || ./times_before | sed 's/^/before /' >>kernels
         ask_openssl
         for each in "$program" "$wide" $beside; do
             name=$(basename "$each")
@@ -46,6 +49,32 @@ measure_widths() (
     done
     echo "$without $without_long" >openssl
 )
+
+# Each call of the ciphers, in planes of 16 bytes and of 32, and which part each is of the ciphers before, where there are such.
+show_steps() {
+    echo
+    echo "Each call: least ns in planes of 16 bytes and of 32, and of the ciphers before, and which part of these the first two are"
+    awk '
+        NF == 5 && $2 !~ /by_blocks/ {
+            call = $2 " " $3
+            ns = $5 / $4
+            if (!(call in seen)) { seen[call]; name_of[++n] = call; length_of[n] = $3 }
+            if (!(($1, call) in least) || ns < least[$1, call]) least[$1, call] = ns
+        }
+        END {
+            printf "%-18s %11s %11s %11s %7s %7s\n", "call, bytes", "16: ns", "32: ns", "before: ns", "16", "32"
+            for (i = 1; i <= n; i++) {
+                if (name_of[i] ~ /^(seal|open) / && length_of[i] < 65 && length_of[i] % 16) continue
+                a = least[16, name_of[i]]; b = least[32, name_of[i]]
+                printf "%-18s %11.1f %11.1f", name_of[i], a, b
+                if (("before", name_of[i]) in least) {
+                    was = least["before", name_of[i]]
+                    printf " %11.1f %7.2f %7.2f", was, a / was, b / was
+                }
+                print ""
+            }
+        }' widths/kernels
+}
 
 # At each length the least time of both widths; and of each program its rates, beside those of OpenSSL and of the first program.
 show_widths() {
@@ -70,6 +99,7 @@ show_widths() {
                 print ""
             }
         }' widths/kernels
+    show_steps
     echo
     echo "64 MiB: the rate by the least time of the processor, how many times that is the rate of OpenSSL without AES instructions in calls of 4,096 bytes, and which part of the first program's time it takes"
     awk -v without="$without" '
