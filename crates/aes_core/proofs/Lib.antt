@@ -8,3 +8,4 @@ pub mod Positions
 pub mod Schedule
 pub mod SecondRound
 pub mod Sixteens
+pub mod VectorKeys

@@ -1,8 +1,8 @@
 //! The constant of the S-box in the round keys.
 //!
-//! On planes the S-box leaves out the constant of its affine transformation. ShiftRows and
-//! MixColumns leave a state with that constant in each byte as it is, so it may as well be added
-//! with the round key.
+//! On planes and in the rounds on vectors the S-box leaves out the constant of its affine
+//! transformation. ShiftRows and MixColumns leave a state with that constant in each byte as it is,
+//! so it may as well be added with the round key.
 
 ghost use Rattle.std.specs.Prelude.{◌≡◌};
 ghost use Rattle.aes_core.specs.PlaneKeys.{with_constant};

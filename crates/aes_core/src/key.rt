@@ -8,26 +8,26 @@ ghost use Rattle.cipher_spec.specs.Gcm.{counter};
 ghost use Rattle.plane_core.specs.Bits.{block};
 ghost use Rattle.plane_core.specs.Places.{lane_bit};
 ghost use Rattle.aes_core.specs.Counters.{HasColumns, IsPage, last_key_byte};
-ghost use Rattle.aes_core.specs.PlaneKeys.{HasKeys};
+ghost use Rattle.aes_core.specs.PlaneKeys.{HasKeys, HasVectorKeys};
 
 use crate::after_second::{cipher_from, second_states};
-use crate::cipher::{cipher, cipher_two};
+use crate::cipher::{cipher, cipher_four, cipher_two};
 use crate::counter::counter_blocks;
-use crate::key_schedule::round_keys;
+use crate::key_schedule::{round_keys, vector_keys};
 use crate::page::{CounterPage, group_states, page_of, turn};
-use crate::{eight, four, last_byte, sixteen};
+use crate::{eight, last_byte, sixteen};
 use plane_core::planes::Planes;
 use plane_core::sixteen::halves;
 use std::marker::Model;
 use std::simd::prelude::*;
 
-/// A key of AES-256 (FIPS 197): its 32 bytes, the round keys that were made from them, those in
-/// planes for eight blocks, and the table of what the last byte of a count adds to the state after
-/// round 1.
+/// A key of AES-256 (FIPS 197): its 32 bytes, the round keys that were made from them, in vectors
+/// for single blocks and in planes for eight, and the table of what the last byte of a count adds to
+/// the state after round 1.
 #[derive(Drop)]
 pub struct Key256 {
     bytes: [u8; 32],
-    schedule: [[u8; 16]; 15],
+    vectors: [[u8; 16]; 15],
     eights: [Planes<u8x16>; 15],
     last_bytes: [Planes<u8x16>; 8],
 }
@@ -38,9 +38,9 @@ impl Model for Key256 {
 
     ghost view = { λ k. k.bytes };
 
-    ghost invariant = { λ k. (k.schedule ≡ round_keys k.bytes)
-        × HasKeys lane_bit 8 k.eights k.schedule
-        × HasColumns k.last_bytes (last_key_byte k.schedule) };
+    ghost invariant = { λ k. HasVectorKeys k.vectors (round_keys k.bytes)
+        × HasKeys lane_bit 8 k.eights (round_keys k.bytes)
+        × HasColumns k.last_bytes (last_key_byte (round_keys k.bytes)) };
 }
 
 /// Whether the eight counts from this one on are a group of a page: none of them is in the next
@@ -60,7 +60,7 @@ impl Key256 {
         let schedule = round_keys(key);
         Key256 {
             bytes: *key,
-            schedule,
+            vectors: vector_keys(&schedule),
             eights: eight::plane_keys(&schedule),
             last_bytes: last_byte::table(schedule[0][15]),
         }
@@ -70,22 +70,21 @@ impl Key256 {
     pub fn block(&self, x: [u8; 16]) -> [u8; 16]
         ensures { result ≡ aes self.now x }
     {
-        cipher(&self.schedule, x)
+        cipher(&self.vectors, x)
     }
 
     /// Two blocks, each enciphered under the key, in hardly more time than one.
     pub fn blocks2(&self, x: [[u8; 16]; 2]) -> [[u8; 16]; 2]
         ensures { result ≡ map (aes self.now) x }
     {
-        cipher_two(&self.schedule, &x)
+        cipher_two(&self.vectors, &x)
     }
 
-    /// Four blocks, each enciphered under the key. The round keys' planes for four blocks are made
-    /// in each call, since a key that held them would be nearly a third larger.
+    /// Four blocks, each enciphered under the key.
     pub fn blocks4(&self, x: [[u8; 16]; 4]) -> [[u8; 16]; 4]
         ensures { result ≡ map (aes self.now) x }
     {
-        four::cipher(&four::plane_keys(&self.schedule), &x)
+        cipher_four(&self.vectors, &x)
     }
 
     /// Eight blocks, each enciphered under the key.
@@ -107,7 +106,7 @@ impl Key256 {
         ensures page { IsPage self.now iv.now result }
         ensures number { result.number ≡ count / 2 ^ 8 }
     {
-        page_of(&self.schedule, &self.last_bytes, iv, count)
+        page_of(&self.vectors, &self.last_bytes, iv, count)
     }
 
     /// Puts the page and the quad of a count in `page`, if they aren't there.
@@ -118,7 +117,7 @@ impl Key256 {
         ensures quad { page.new.quad ≡ count / 32 }
     {
         if page.quad != count / 32 {
-            turn(&self.schedule, &self.last_bytes, iv, count, page);
+            turn(&self.vectors, &self.last_bytes, iv, count, page);
         }
     }
 

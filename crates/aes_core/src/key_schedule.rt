@@ -4,8 +4,10 @@ ghost use Rattle.std.specs.Prelude.{◌≡◌, ◌<◌, ◌≤◌, ◌∷◌, []
 ghost use Rattle.std.specs.List.{range_with_len};
 ghost use Rattle.cipher_spec.specs.Aes.{add_word, changed, key_expansion, key_word, rcon, rot_word};
 ghost use Rattle.cipher_spec.specs.Aes.{round_key, round_keys, sub_word, words};
+ghost use Rattle.aes_core.specs.PlaneKeys.{HasVectorKeys};
 
-use crate::sbox::sub_bytes;
+use crate::constant::{CONSTANT, with_constant};
+use crate::sbox::{in_basis, sub_bytes, sum};
 use std::simd::prelude::*;
 
 /// The first bytes of Rcon[0] to Rcon[7]. Rcon[0] isn't used.
@@ -25,8 +27,9 @@ fn sub_word(a: [u8; 4]) -> [u8; 4]
     ensures { result ≡ sub_word a }
 {
     let bytes = [a[0], a[1], a[2], a[3], 0, 0, 0, 0, 0, 0, 0, 0, 0, 0, 0, 0];
-    let images = sub_bytes(u8x16::from_array(bytes)).once.to_array();
-    [images[0], images[1], images[2], images[3]]
+    let images = sub_bytes(in_basis(u8x16::from_array(bytes)));
+    let word = sum(images, u8x16::splat(CONSTANT)).to_array();
+    [word[0], word[1], word[2], word[3]]
 }
 
 /// RotWord: each byte moves one place to the left, around the end.
@@ -122,4 +125,16 @@ pub fn round_keys(key: &[u8; 32]) -> [[u8; 16]; 15]
     ensures { result ≡ round_keys key.now }
 {
     cut(&key_expansion(key))
+}
+
+/// The round keys of a key schedule as the rounds on vectors take them.
+pub fn vector_keys(schedule: &[[u8; 16]; 15]) -> [[u8; 16]; 15]
+    ensures { HasVectorKeys result schedule.now }
+{
+    let mut keys = *schedule;
+    'inner: for r in 1..14 {
+        keys[r] = in_basis(u8x16::from_array(with_constant(schedule[r]))).to_array();
+    }
+    keys[14] = with_constant(schedule[14]);
+    keys
 }

@@ -13,7 +13,6 @@ mod cipher;
 mod constant;
 mod counter;
 mod eight;
-mod four;
 mod key;
 mod key_schedule;
 mod lanes;

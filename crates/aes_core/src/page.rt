@@ -10,6 +10,7 @@ ghost use Rattle.plane_core.specs.Bits.{block};
 ghost use Rattle.plane_core.specs.Places.{lane_bit};
 ghost use Rattle.aes_core.specs.Counters.{HasColumns, HasPage, last_byte, last_key_byte};
 ghost use Rattle.aes_core.specs.Counters.{page_bytes};
+ghost use Rattle.aes_core.specs.PlaneKeys.{HasVectorKeys};
 
 use crate::cipher::{after_first_round, round_without_column};
 use crate::counter::page_block;
@@ -36,26 +37,26 @@ pub struct CounterPage {
 }
 
 /// The page that has the counter block of a count, with the quad of the count. `last_bytes` is the
-/// table of the key.
+/// table of the key, `keys` are its round keys in vectors.
 #[inline(never)]
 pub fn page_of(
-    schedule: &[[u8; 16]; 15],
+    keys: &[[u8; 16]; 15],
     last_bytes: &[Planes<u8x16>; 8],
     iv: &[u8; 12],
     count: u32,
 ) -> CounterPage
     ensures number { result.number ≡ count / 2 ^ 8 }
     ensures quad { result.quad ≡ count / 32 }
-    ensures page { HasColumns last_bytes.now (last_key_byte schedule.now)
-        → HasPage schedule.now iv.now result }
+    ensures page { (schedule : List (List ℕ)) → HasVectorKeys keys.now schedule
+        → HasColumns last_bytes.now (last_key_byte schedule) → HasPage schedule iv.now result }
 {
-    let state = after_first_round(schedule, page_block(iv, count, schedule[0][15]));
+    let state = after_first_round(keys, page_block(iv, count, keys[0][15]));
     let column = loaded(&[four_times(state); 8]);
     CounterPage {
         number: count / 256,
         quad: count / 32,
         column,
-        rest: loaded(&[round_without_column(state, schedule[2]); 8]),
+        rest: loaded(&[round_without_column(state, keys[2]); 8]),
         images: quad_images(last_bytes, &column, (count % 256 / 32) as usize),
     }
 }
@@ -63,18 +64,19 @@ pub fn page_of(
 /// Puts the page and the quad of a count in `page`.
 #[inline(never)]
 pub fn turn(
-    schedule: &[[u8; 16]; 15],
+    keys: &[[u8; 16]; 15],
     last_bytes: &[Planes<u8x16>; 8],
     iv: &[u8; 12],
     count: u32,
     page: &mut CounterPage,
 )
     ensures quad { page.new.quad ≡ count / 32 }
-    ensures page { HasColumns last_bytes.now (last_key_byte schedule.now)
-        → HasPage schedule.now iv.now page.old → HasPage schedule.now iv.now page.new }
+    ensures page { (schedule : List (List ℕ)) → HasVectorKeys keys.now schedule
+        → HasColumns last_bytes.now (last_key_byte schedule)
+        → HasPage schedule iv.now page.old → HasPage schedule iv.now page.new }
 {
     if page.number != count / 256 {
-        *page = page_of(schedule, last_bytes, iv, count);
+        *page = page_of(keys, last_bytes, iv, count);
     } else {
         page.images = quad_images(last_bytes, &page.column, (count % 256 / 32) as usize);
         page.quad = count / 32;

@@ -1,21 +1,16 @@
-use Rattle.std.proofs.Common.{◌≡◌, ◌+◌, ◌-◌, suc, refl, ap, ◌∙◌, arith}
-use Rattle.cipher_spec.specs.Aes.{rounds, cipher, round, last_round, word_at}
+use Rattle.std.proofs.Common.{refl, arith}
+use Rattle.cipher_spec.specs.Aes.{word_at}
+use Rattle.aes_core.proofs.KeyPlanes.{before_rounds, round_more, after_rounds}
 use Rattle.aes_core.proofs.cipher.cipher.Goals as goal
 
 pub rounds-init : goal.rounds-init
-unfolding rounds
-rounds-init c = c.first-state.ensures
+rounds-init c schedule has = before_rounds schedule _ c.args.x c.args.x _ c.first-state.ensures refl has.is_first
 
 pub rounds-preserved : goal.rounds-preserved
-unfolding rounds
-rounds-preserved c =
+rounds-preserved c schedule has =
     let r = c.rounds.r in
-    let e : r + 1 - 1 ≡ suc (r - 1) = omega arith in
-    let f : suc (r - 1) ≡ r = omega arith in
-    c.round-next.ensures ∙ ap (λ s. round s (word_at c.args.keys.now r)) c.rounds.invariant ∙ rw (e, f) refl
+    round_more schedule _ _ c.args.x r (omega arith) (c.round-next.ensures (word_at schedule r) (has.is_inner r (omega arith) (omega arith))) (c.rounds.invariant schedule has)
 
 pub returns : goal.returns
-unfolding cipher
-returns c =
-    let e : c.rounds.r - 1 ≡ 13 = omega arith in
-    c.last_round.ensures ∙ ap (λ s. last_round s (word_at c.args.keys.now 14)) c.rounds.invariant ∙ rw e refl
+returns c schedule has =
+    after_rounds schedule _ _ c.args.x c.rounds.r (omega arith) (c.last_round.ensures (word_at schedule 14) has.is_last) (c.rounds.invariant schedule has)

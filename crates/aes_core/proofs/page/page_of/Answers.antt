@@ -1,6 +1,6 @@
 use Rattle.std.proofs.Common.{◌≡◌, ◌%◌, ◌/◌, ◌^◌, ◌<◌, List, ℕ, [], ◌∷◌, ◌++◌, ap, ◌∙◌, arith}
 use Rattle.std.proofs.lemmas.List.{get_or-replicate}
-use Rattle.cipher_spec.specs.Aes.{add_round_key, round, rounds, word_at}
+use Rattle.cipher_spec.specs.Aes.{add_round_key, at, round, rounds, word_at}
 use Rattle.aes_core.specs.Counters.{four_times, last_key_byte, page_bytes, page_rest, page_state, quad_images, without_column}
 use Rattle.aes_core.proofs.page.page_of.Goals as goal
 
@@ -15,12 +15,12 @@ unfolding page_rest
 rest_is schedule iv s r page e f = f ∙ ap (λ s. round (without_column s) (word_at schedule 2)) e
 
 pub returns-clause-page : goal.returns-clause-page
-returns-clause-page c = λ has.
-    let schedule = c.args.schedule.now in
+returns-clause-page c = λ schedule keys has.
     let iv = c.args.iv.now in
     let count = c.args.count in
     let page = count / 2 ^ 8 in
-    let state = state_is schedule iv _ _ page c.after_first_round-state.ensures c.page_block.ensures in
+    let block = c.page_block.ensures ∙ ap (λ k. page_bytes iv page ++ at k 3 3 ∷ []) keys.is_first in
+    let state = state_is schedule iv _ _ page (c.after_first_round-state.ensures schedule keys) block in
     let k = last_key_byte schedule in
     let quad : count % 256 / 32 ≡ count / 32 % 8 = omega arith in
     let column = λ (b : ℕ) (h : b < 8). c.loaded-column.ensures b h ∙ get_or-replicate 8 b c.four_times.result [] h ∙ c.four_times.ensures in
@@ -28,7 +28,7 @@ returns-clause-page c = λ has.
       is_number = omega arith;
       is_column = λ b h. column b h ∙ ap four_times state;
       is_rest = λ b h.
-          c.loaded.ensures b h ∙ get_or-replicate 8 b c.round_without_column.result [] h ∙ rest_is schedule iv _ _ page state c.round_without_column.ensures;
+          c.loaded.ensures b h ∙ get_or-replicate 8 b c.round_without_column.result [] h ∙ rest_is schedule iv _ _ page state (c.round_without_column.ensures (word_at schedule 2) (keys.is_inner 2 (omega arith) (omega arith)));
       is_images = λ b h.
           c.quad_images.ensures k b (page_state schedule iv page) has h (column b h ∙ ap four_times state)
           ∙ ap (λ q. quad_images k (page_state schedule iv page) q b) quad;

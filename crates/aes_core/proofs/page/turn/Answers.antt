@@ -3,8 +3,7 @@ use Rattle.aes_core.specs.Counters.{last_key_byte, page_state, quad_images}
 use Rattle.aes_core.proofs.page.turn.Goals as goal
 
 pub returns-else-page-count-clause-page : goal.returns-else-page-count-clause-page
-returns-else-page-count-clause-page c = λ has old.
-    let schedule = c.args.schedule.now in
+returns-else-page-count-clause-page c = λ schedule keys has old.
     let page = c.args.page.now in
     let count = c.args.count in
     let k = last_key_byte schedule in

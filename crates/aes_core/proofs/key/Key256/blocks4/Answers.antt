@@ -4,4 +4,4 @@ use Rattle.aes_core.proofs.key.Key256.blocks4.Goals as goal
 
 pub returns : goal.returns
 unfolding aes
-returns c = c.cipher.ensures c.self.inside.schedule c.plane_keys.ensures ∙ rw (c.self.invariant.0, c.self.view_is) refl
+returns c = c.cipher_four.ensures _ c.self.invariant.0 ∙ rw c.self.view_is refl

@@ -4,4 +4,4 @@ use Rattle.aes_core.proofs.key.Key256.blocks8.Goals as goal
 
 pub returns : goal.returns
 unfolding aes
-returns c = c.cipher.ensures c.self.inside.schedule c.self.invariant.1 ∙ rw (c.self.invariant.0, c.self.view_is) refl
+returns c = c.cipher.ensures _ c.self.invariant.1 ∙ rw c.self.view_is refl

@@ -12,7 +12,7 @@ use Rattle.aes_core.proofs.key.Key256.counters16.Goals as goal
 pub returns-clause-blocks : goal.returns-clause-blocks
 unfolding aes
 returns-clause-blocks c =
-    let schedule = c.self.inside.schedule in
+    let schedule = round_keys c.self.inside.bytes in
     let keys = round_keys c.args.self.now in
     let iv = c.args.iv.now in
     let initial = iv ++ to_be_bytes w32 c.args.count in
@@ -21,6 +21,6 @@ returns-clause-blocks c =
     (λ b h. c.halves.ensures.low b h ∙ c.started-first.ensures.states b h)
     (λ b h. c.halves.ensures.high b h ∙ c.started-second.ensures.states b h ∙ ap (λ x. rounds keys x 2) (counter_second iv c.args.count b c.told-iv (omega arith))) in
     c.cipher_from.ensures schedule blocks c.self.invariant.1 (length-map-range_with_len (counter initial) 0 16) (λ b h.
-    states b h ∙ rw (c.self.invariant.0, c.self.view_is) refl
+    states b h ∙ rw c.self.view_is refl
     ∙ ap (λ x. rounds schedule x 2) (sym (get_or-map-range_with_len (counter initial) 0 16 b b [] h (omega arith))))
-    ∙ rw (c.self.invariant.0, c.self.view_is) refl
+    ∙ rw c.self.view_is refl

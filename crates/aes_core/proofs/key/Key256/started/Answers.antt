@@ -8,11 +8,11 @@ use Rattle.aes_core.proofs.key.Key256.started.Goals as goal
 
 pub returns-then-not-is_group-clause-states : goal.returns-then-not-is_group-clause-states
 returns-then-not-is_group-clause-states c = λ b h.
-    let schedule = c.self.inside.schedule in
+    let schedule = round_keys c.self.inside.bytes in
     let initial = c.args.iv.now ++ to_be_bytes w32 c.args.count in
     c.second_states.ensures schedule b c.self.invariant.1 h
     ∙ ap (λ x. rounds schedule x 2) (ap (λ l. get_or l b []) c.counter_blocks.ensures ∙ get_or-map-range_with_len (counter initial) 0 8 b b [] h (omega arith))
-    ∙ rw (c.self.invariant.0, c.self.view_is) refl
+    ∙ rw c.self.view_is refl
 
 pub returns-clause-states : goal.returns-clause-states
 returns-clause-states c = λ b h.

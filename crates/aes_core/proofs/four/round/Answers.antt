@@ -1,8 +1,0 @@
-use Rattle.plane_core.specs.Places.{word_bit}
-use Rattle.aes_core.proofs.Constants.{plane_round, shifted_later}
-use Rattle.aes_core.proofs.four.round.Goals as goal
-
-pub returns : goal.returns
-returns c b k e =
-    plane_round word_bit c.args.s.now c.round.result c.args.key.now _ b k
-    (shifted_later word_bit c.args.s.now c.sub_bytes.result b c.sub_bytes.ensures) (c.round.ensures b) e
