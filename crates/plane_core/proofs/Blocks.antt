@@ -1,17 +1,14 @@
--- Blocks in words and in planes: words of rows, and the same rows as columns.
-use Rattle.std.proofs.Common.{◌≡◌, ℕ, zero, suc, ◌+◌, ◌*◌, ◌/◌, ◌%◌, ◌^◌, ◌<◌, List, [], ◌∷◌, ◌++◌, length, map, get_or, refl, sym, ap, ◌∙◌, arith}
-use Rattle.std.specs.Int.{bit_at, byte_at, to_le_bytes, w64}
+-- Blocks in vectors and in planes: words of rows, and the same rows as columns.
+use Rattle.std.proofs.Common.{◌≡◌, ℕ, zero, suc, ◌+◌, ◌*◌, ◌/◌, ◌%◌, ◌<◌, List, [], ◌∷◌, length, map, get_or, refl, sym, ap, ◌∙◌, arith}
+use Rattle.std.specs.Int.{bit_at}
 use Rattle.std.specs.List.{range_with_len}
-use Rattle.std.proofs.lemmas.Nat.{shr-shr, shr_split, mod_below}
-use Rattle.std.proofs.lemmas.Nat.Bits.{bit_at_cat_low}
 use Rattle.std.proofs.lemmas.List.FromFn.{get_or-map-range_with_len, fill_by_all}
 use Rattle.plane_core.specs.declared.planes.Planes.{Planes}
 use Rattle.plane_core.specs.Bits.{number_of, byte_of, block}
 use Rattle.plane_core.specs.Grid.{bit_row, plane_word}
-use Rattle.plane_core.specs.Places.{lane, lane_bit, word_bit, spot}
+use Rattle.plane_core.specs.Places.{lane, lane_bit}
 use Rattle.plane_core.proofs.Bytes.{same_image, spread}
 use Rattle.plane_core.proofs.States.{same_state}
-use Rattle.plane_core.proofs.Words.{cell}
 use Rattle.plane_core.proofs.Lanes.{lane_cell}
 
 -- ---- one by one
@@ -77,52 +74,3 @@ of_lanes p r e b h x long bytes lanes =
     let i : j % 4 + 4 * (j / 4) ≡ j = omega arith in
     rw i (byte_from_bits lane_bit p j b (get_or x j 0) (bytes j) (λ q s. e.cells q b (lane j) s h ∙ ap (λ n. bit_at n q) (lanes j l))))
     ∙ sym (fill_by_all (λ j. get_or x j 0) x 16 0 long (λ k l. refl))
-
--- ---- four blocks in words
-
-low_bit : (m i : ℕ) → i < 8 → bit_at (m % 256) i ≡ bit_at m i
-low_bit m i h = sym (bit_at_cat_low (m / 2 ^ 8) 8 (m % 256) i h) ∙ ap (λ n. bit_at n i) (shr_split m 8)
-
-bit_of_byte : (n a i : ℕ) → i < 8 → bit_at (n / 2 ^ a % 256) i ≡ bit_at n (a + i)
-bit_of_byte n a i h = low_bit (n / 2 ^ a) i h ∙ ap (λ m. m % 2) (shr-shr n a i)
-
-bits_of_byte : (n i : ℕ) → i < 8 → (k : ℕ) → k < 8 → bit_at (byte_at k n) i ≡ bit_at n (8 * k + i)
-bits_of_byte n i h = each_of_eight (λ k. bit_at (byte_at k n) i ≡ bit_at n (8 * k + i)) (let e : i ≡ 0 + i = omega arith in low_bit n i h ∙ ap (bit_at n) e)
-    (bit_of_byte n 8 i h) (bit_of_byte n 16 i h) (bit_of_byte n 24 i h) (bit_of_byte n 32 i h) (bit_of_byte n 40 i h) (bit_of_byte n 48 i h) (bit_of_byte n 56 i h)
-
-byte_is_small : (n k : ℕ) → byte_at k n < 256
-byte_is_small n zero = mod_below n 256 (omega arith)
-byte_is_small n (suc k) = mod_below (n / 256 ^ suc k) 256 (omega arith)
-
--- the half of a block that has its byte j
-abbrev pub half : ℕ → ℕ → ℕ → ℕ
-half zero first second = first
-half (suc n) first second = second
-
-half_at : (r : Planes ℕ) (b n : ℕ) → n < 2 → plane_word r (4 * n + b) ≡ half n (plane_word r b) (plane_word r (4 + b))
-half_at r b zero h = let e : 4 * 0 + b ≡ b = omega arith in ap (plane_word r) e
-half_at r b (suc zero) h = refl
-half_at r b (suc (suc n)) h = absurd (omega arith)
-
-word_byte : (p r : Planes ℕ) → IsTransposed cell p r → (b j : ℕ) → b < 4 → j < 16
-    → byte_of word_bit p j b ≡ byte_at (j % 8) (half (j / 8) (plane_word r b) (plane_word r (4 + b)))
-word_byte p r e b j h l =
-    let i = 4 * (j / 8) + b in
-    let w = plane_word r i in
-    byte_from_bits word_bit p j b (byte_at (j % 8) w) (byte_is_small w (j % 8)) (λ q s.
-    let here : spot j (b % 4) ≡ 8 * (j % 8 % 8) + i = omega arith in
-    let there : 8 * (j % 8 % 8) + q ≡ 8 * (j % 8) + q = omega arith in
-    ap (bit_at (plane_word p q)) here ∙ e.cells q i (j % 8) s (omega arith) ∙ ap (bit_at w) there ∙ sym (bits_of_byte w q s (j % 8) (omega arith)))
-    ∙ ap (byte_at (j % 8)) (half_at r b (j / 8) (omega arith))
-
-pub of_halves : (p r : Planes ℕ) → IsTransposed cell p r → (b : ℕ) → b < 4
-    → block word_bit p b ≡ to_le_bytes w64 (plane_word r b) ++ to_le_bytes w64 (plane_word r (4 + b))
-unfolding block
-of_halves p r e b h =
-    same_state (λ j. byte_of word_bit p (j % 4 + 4 * (j / 4)) b) (λ j. byte_at (j % 8) (half (j / 8) (plane_word r b) (plane_word r (4 + b)))) (λ j l.
-    let i : j % 4 + 4 * (j / 4) ≡ j = omega arith in
-    rw i (word_byte p r e b j h l))
-
-pub halves_joined : (x lo hi y z : List ℕ) → length x ≡ 16 → lo ≡ y → hi ≡ z → map (λ j. get_or x j 0) (range_with_len 0 16) ≡ y ++ z → lo ++ hi ≡ x
-halves_joined x lo hi y z long e f h =
-    rw (e, f) (sym h ∙ sym (fill_by_all (λ j. get_or x j 0) x 16 0 long (λ k l. refl)))

@@ -48,7 +48,7 @@ unfolding byte_of
 byte_below bit is_bit x j b = number_below (bit x.b0 j b) (bit x.b1 j b) (bit x.b2 j b) (bit x.b3 j b) (bit x.b4 j b) (bit x.b5 j b) (bit x.b6 j b) (bit x.b7 j b) (is_bit x.b0 j b) (is_bit x.b1 j b) (is_bit x.b2 j b) (is_bit x.b3 j b) (is_bit x.b4 j b) (is_bit x.b5 j b) (is_bit x.b6 j b) (is_bit x.b7 j b)
 
 -- bit i of a byte is that of plane i
-pub byte_bit : {P : Type 0} → (bit : P → ℕ → ℕ → ℕ) → ((p : P) (j b : ℕ) → bit p j b < 2) → (x : Planes P) (j b i : ℕ) → i < 8
+byte_bit : {P : Type 0} → (bit : P → ℕ → ℕ → ℕ) → ((p : P) (j b : ℕ) → bit p j b < 2) → (x : Planes P) (j b i : ℕ) → i < 8
     → bit_at (byte_of bit x j b) i ≡ bit (plane_word x i) j b
 unfolding byte_of
 byte_bit bit is_bit x j b zero h = bit0_of (bit x.b0 j b) (bit x.b1 j b) (bit x.b2 j b) (bit x.b3 j b) (bit x.b4 j b) (bit x.b5 j b) (bit x.b6 j b) (bit x.b7 j b) (is_bit x.b0 j b) (is_bit x.b1 j b) (is_bit x.b2 j b) (is_bit x.b3 j b) (is_bit x.b4 j b) (is_bit x.b5 j b) (is_bit x.b6 j b) (is_bit x.b7 j b)

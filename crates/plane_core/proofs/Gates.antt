@@ -1,4 +1,4 @@
--- One bit of the sums and products of words and of vectors.
+-- One bit of the sums and products of numbers and of vectors.
 use Rattle.std.proofs.Common.{◌≡◌, ℕ, ◌/◌, ◌%◌, ◌^◌, ◌≤◌, List, length, get_or, bit_and, bit_xor, refl, sym, ap, ◌∙◌, inl, inr, arith}
 use Rattle.std.specs.Int.{bit_at}
 use Rattle.std.specs.Simd.Lanes.{zip2}
@@ -10,7 +10,7 @@ use Rattle.std.proofs.lemmas.Simd.{get_or-zip2, length-zip2}
 pub bit_of_xor : (a b i : ℕ) → bit_at (bit_xor a b) i ≡ bit_xor (bit_at a i) (bit_at b i)
 bit_of_xor a b i = ap (λ n. n % 2) (xor_shr a b i) ∙ xor_mod (a / 2 ^ i) (b / 2 ^ i) 1
 
-pub bit_of_and : (a b i : ℕ) → bit_at (bit_and a b) i ≡ bit_and (bit_at a i) (bit_at b i)
+bit_of_and : (a b i : ℕ) → bit_at (bit_and a b) i ≡ bit_and (bit_at a i) (bit_at b i)
 bit_of_and a b i = ap (λ n. n % 2) (and_shr a b i) ∙ and_mod (a / 2 ^ i) (b / 2 ^ i) 1
 
 -- lane by lane, and past the end, where a lane reads as 0

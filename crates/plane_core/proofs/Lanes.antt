@@ -56,7 +56,7 @@ mapped f none x j = elim (cases_lt j (length x)) [
       get_or_past (map f x) j 0 e ∙ sym none ∙ ap f (sym (get_or_past x j 0 g))
 ]
 
-pub lane_below : (x : List ℕ) → Each1 (Fits w8) x → (j : ℕ) → get_or x j 0 < 256
+lane_below : (x : List ℕ) → Each1 (Fits w8) x → (j : ℕ) → get_or x j 0 < 256
 lane_below x h j = elim (cases_lt j (length x)) [
   | inl s ↦ (Each1-get_or (Fits w8) x j 0 s h).fits
   | inr g ↦ rw (get_or_past x j 0 g) (omega arith)
@@ -114,7 +114,7 @@ differing_lane count n m a b h l k =
     ∙ ap (λ x. bit_xor x (get_or b k 0)) (each_lane count (λ x s. x / 2 ^ s) n (none_down n) a h k))
 
 evens_lane : (count n m : ℕ) (a b : List ℕ) → length a ≡ count → length b ≡ count → (k : ℕ)
-    → get_or (zip2 bit_xor a (zip2 (λ x s. x * 2 ^ s % 256) (differing count n m a b) (replicate count n))) k 0 ≡ evens 8 n m (get_or a k 0) (get_or b k 0)
+    → get_or (zip2 bit_xor a (zip2 (λ x s. x * 2 ^ s % 256) (differing count n m a b) (replicate count n))) k 0 ≡ evens n m (get_or a k 0) (get_or b k 0)
 evens_lane count n m a b h l k =
     let d = differing count n m a b in
     let long = differing_long count n m a b h l in
@@ -128,20 +128,20 @@ odds_lane count n m a b h l k =
     lane_of bit_xor refl b (differing count n m a b) l (differing_long count n m a b h l) k
     ∙ ap (bit_xor (get_or b k 0)) (differing_lane count n m a b h l k)
 
-pub lane_evens : (count n m : ℕ) → T (keeps 8 (λ i. i) (is_even n) (λ i. i) (evens_self 8 n m)) → T (moves 8 (λ i. i) (is_even n) (λ i. i - n) (raised 8 n m))
+pub lane_evens : (count n m : ℕ) → T (keeps (is_even n) (λ i. i) (evens_self n m)) → T (moves (is_even n) (λ i. i - n) (raised n m))
     → (a b : List ℕ) → length a ≡ count → length b ≡ count → Each1 (Fits w8) a → Each1 (Fits w8) b → (k i : ℕ) → i < 8
     → lane_cell (zip2 bit_xor a (zip2 (λ x s. x * 2 ^ s % 256) (differing count n m a b) (replicate count n))) k i ≡ cond (is_even n i) (lane_cell a k i) (lane_cell b k (i - n))
 lane_evens count n m p q a b h l s t k i d =
     let x = get_or a k 0 in
     let y = get_or b k 0 in
-    ap (λ w. bit_at w i) (evens_lane count n m a b h l k ∙ evens_apart 8 n m x y)
-    ∙ paired 8 (λ i. i) (is_even n) (λ i. i) (λ i. i - n) (evens_self 8 n m) (raised 8 n m) (linear_evens_self 8 n m) (linear_raised 8 n m) p q x y i (lane_below a s k) (lane_below b t k) d
+    ap (λ w. bit_at w i) (evens_lane count n m a b h l k ∙ evens_apart n m x y)
+    ∙ paired (is_even n) (λ i. i) (λ i. i - n) (evens_self n m) (raised n m) (linear_evens_self n m) (linear_raised n m) p q x y i (lane_below a s k) (lane_below b t k) d
 
-pub lane_odds : (count n m : ℕ) → T (keeps 8 (λ i. i) (is_even n) (λ i. i + n) (odds_self n m)) → T (moves 8 (λ i. i) (is_even n) (λ i. i) (odds_other m))
+pub lane_odds : (count n m : ℕ) → T (keeps (is_even n) (λ i. i + n) (odds_self n m)) → T (moves (is_even n) (λ i. i) (odds_other m))
     → (a b : List ℕ) → length a ≡ count → length b ≡ count → Each1 (Fits w8) a → Each1 (Fits w8) b → (k i : ℕ) → i < 8
     → lane_cell (zip2 bit_xor b (differing count n m a b)) k i ≡ cond (is_even n i) (lane_cell a k (i + n)) (lane_cell b k i)
 lane_odds count n m p q a b h l s t k i d =
     let x = get_or a k 0 in
     let y = get_or b k 0 in
     ap (λ w. bit_at w i) (odds_lane count n m a b h l k ∙ odds_apart n m x y)
-    ∙ paired 8 (λ i. i) (is_even n) (λ i. i + n) (λ i. i) (odds_self n m) (odds_other m) (linear_odds_self n m) (linear_odds_other m) p q x y i (lane_below a s k) (lane_below b t k) d
+    ∙ paired (is_even n) (λ i. i + n) (λ i. i) (odds_self n m) (odds_other m) (linear_odds_self n m) (linear_odds_other m) p q x y i (lane_below a s k) (lane_below b t k) d

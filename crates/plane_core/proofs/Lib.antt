@@ -2,11 +2,9 @@ pub mod Blocks
 pub mod Bytes
 pub mod Gates
 pub mod Lanes
-pub mod Powers
 pub mod Rows
 pub mod Sbox
 pub mod States
 pub mod WideBlocks
 pub mod WideLanes
 pub mod Wires
-pub mod Words

@@ -4,11 +4,11 @@ use Rattle.std.specs.List.{range_with_len}
 use Rattle.std.specs.Int.Bits.{xor_assoc}
 use Rattle.std.proofs.lemmas.List.FromFn.{get_or-map-range_with_len, length-map-range_with_len, fill_by_all}
 use Rattle.cipher_spec.specs.Field.{xtime, field_product}
-use Rattle.cipher_spec.specs.Aes.{add_round_key, mix_columns, shift_rows}
+use Rattle.cipher_spec.specs.Aes.{add_round_key, mix_columns}
 use Rattle.cipher_spec.proofs.Computed.{holds_below, at_each, same_below}
 use Rattle.plane_core.specs.declared.planes.Planes.{Planes}
 use Rattle.plane_core.specs.Bits.{byte_of, block, mixed_byte}
-use Rattle.plane_core.specs.Places.{shifted, below}
+use Rattle.plane_core.specs.Places.{below}
 
 -- lists of the same 16 members
 pub same_state : (f g : ℕ → ℕ) → ((k : ℕ) → k < 16 → f k ≡ g k) → map f (range_with_len 0 16) ≡ map g (range_with_len 0 16)
@@ -48,14 +48,6 @@ unfolding block
 mixed_alone bit x y b e =
     let at = λ (j : ℕ). byte_of bit x j b in
     same_state (λ j. byte_of bit y (j % 4 + 4 * (j / 4)) b) (λ j. mixed_byte (at j) (at (below 1 j)) (at (below 2 j)) (at (below 3 j)))
-    (λ j h. let i : j % 4 + 4 * (j / 4) ≡ j = omega arith in rw i (e j h))
-
--- the state that ShiftRows makes of it
-pub shifted_alone : {P : Type 0} → (bit : P → ℕ → ℕ → ℕ) (x y : Planes P) (b : ℕ)
-    → ((j : ℕ) → j < 16 → byte_of bit y j b ≡ byte_of bit x (shifted j) b) → block bit y b ≡ shift_rows (block bit x b)
-unfolding block
-shifted_alone bit x y b e =
-    same_state (λ j. byte_of bit y (j % 4 + 4 * (j / 4)) b) (λ j. byte_of bit x (shifted j) b)
     (λ j h. let i : j % 4 + 4 * (j / 4) ≡ j = omega arith in rw i (e j h))
 
 pub key_added : {P : Type 0} → (bit : P → ℕ → ℕ → ℕ) (x y z : Planes P) (b : ℕ)

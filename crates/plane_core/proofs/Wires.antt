@@ -24,7 +24,7 @@ at_top f g h k n e zero l = rw (zero-mul (2 ^ n)) (at_zero f h ∙ sym (at_zero 
 at_top f g h k n e (suc zero) l = rw (one-mul (2 ^ n)) e
 at_top f g h k n e (suc (suc t)) l = absurd (omega arith)
 
-pub same_wires : (f g : ℕ → ℕ) → IsLinear f → IsLinear g → (n : ℕ) → ((e : ℕ) → e < n → f (2 ^ e) ≡ g (2 ^ e)) → (w : ℕ) → w < 2 ^ n → f w ≡ g w
+same_wires : (f g : ℕ → ℕ) → IsLinear f → IsLinear g → (n : ℕ) → ((e : ℕ) → e < n → f (2 ^ e) ≡ g (2 ^ e)) → (w : ℕ) → w < 2 ^ n → f w ≡ g w
 same_wires f g h k zero same w l =
     let z : w ≡ 0 = omega arith in
     ap f z ∙ at_zero f h ∙ sym (at_zero g k) ∙ sym (ap g z)
@@ -45,13 +45,13 @@ swap_inner a b c d =
     xor_assoc a b (bit_xor c d) ∙ ap (bit_xor a) (sym (xor_assoc b c d) ∙ ap (λ n. bit_xor n d) (xor_comm b c) ∙ xor_assoc c b d)
     ∙ sym (xor_assoc a c (bit_xor b d))
 
-pub linear_self : IsLinear (λ w. w)
+linear_self : IsLinear (λ w. w)
 linear_self = record { sums = λ a b. refl }
 
 linear_none : IsLinear (λ w. 0)
 linear_none = record { sums = λ a b. refl }
 
-pub linear_xor : {f g : ℕ → ℕ} → IsLinear f → IsLinear g → IsLinear (λ w. bit_xor (f w) (g w))
+linear_xor : {f g : ℕ → ℕ} → IsLinear f → IsLinear g → IsLinear (λ w. bit_xor (f w) (g w))
 linear_xor {f} {g} h k = record { sums = λ a b. both _ _ _ _ (h.sums a b) (k.sums a b) ∙ swap_inner (f a) (f b) (g a) (g b) }
 
 product_of_sum : (x y z : ℕ) → x < 2 → y < 2 → z < 2 → min ((x + y) % 2) z ≡ (min x z + min y z) % 2
@@ -64,63 +64,63 @@ and_of_xor a b m = same_from_bits _ _ (λ i.
     rw (bit_at_and (bit_xor a b) m i, bit_at_xor a b i, bit_at_xor (bit_and a m) (bit_and b m) i, bit_at_and a m i, bit_at_and b m i)
     (product_of_sum _ _ _ (bit_at-lt a i) (bit_at-lt b i) (bit_at-lt m i)))
 
-pub linear_and : {f : ℕ → ℕ} → IsLinear f → (m : ℕ) → IsLinear (λ w. bit_and (f w) m)
+linear_and : {f : ℕ → ℕ} → IsLinear f → (m : ℕ) → IsLinear (λ w. bit_and (f w) m)
 linear_and {f} h m = record { sums = λ a b. ap (λ n. bit_and n m) (h.sums a b) ∙ and_of_xor (f a) (f b) m }
 
-pub linear_down : (k : ℕ) → IsLinear (λ w. w / 2 ^ k)
+linear_down : (k : ℕ) → IsLinear (λ w. w / 2 ^ k)
 linear_down k = record { sums = λ a b. xor_shr a b k }
 
 shl_of_xor : (k a b : ℕ) → bit_xor (a * 2 ^ k) (b * 2 ^ k) ≡ bit_xor a b * 2 ^ k
 shl_of_xor k a b =
     rw (add-zero (a * 2 ^ k), add-zero (b * 2 ^ k), add-zero (bit_xor a b * 2 ^ k)) at (xor_block k a b 0 0 (pow_pos k) (pow_pos k))
 
-pub linear_up : (k n : ℕ) → IsLinear (λ w. w * 2 ^ k % 2 ^ n)
+linear_up : (k n : ℕ) → IsLinear (λ w. w * 2 ^ k % 2 ^ n)
 linear_up k n = record { sums = λ a b. ap (λ w. w % 2 ^ n) (sym (shl_of_xor k a b)) ∙ xor_mod (a * 2 ^ k) (b * 2 ^ k) n }
 
-pub linear_bit : {f : ℕ → ℕ} → IsLinear f → (q : ℕ) → IsLinear (λ w. bit_at (f w) q)
+linear_bit : {f : ℕ → ℕ} → IsLinear f → (q : ℕ) → IsLinear (λ w. bit_at (f w) q)
 linear_bit {f} h q = record { sums = λ a b. ap (λ n. bit_at n q) (h.sums a b) ∙ bit_of_xor (f a) (f b) q }
 
 linear_choice : (p : Bool) → {f g : ℕ → ℕ} → IsLinear f → IsLinear g → IsLinear (λ w. cond p (f w) (g w))
 linear_choice true h k = h
 linear_choice false h k = k
 
--- ---- words of bytes, bit by bit
+-- ---- bytes, bit by bit
 
--- bit `at i` of what f makes is bit `at (u i)` where i is picked, and 0 elsewhere
-abbrev pub keeps : ℕ → (ℕ → ℕ) → (ℕ → Bool) → (ℕ → ℕ) → (ℕ → ℕ) → Bool
-keeps n at pick u f = holds_below (λ i. holds_below (λ e. eqb (bit_at (f (2 ^ e)) (at i)) (cond (pick i) (bit_at (2 ^ e) (at (u i))) 0)) n) 8
+-- bit i of what f makes is bit `u i` where i is picked, and 0 elsewhere
+abbrev pub keeps : (ℕ → Bool) → (ℕ → ℕ) → (ℕ → ℕ) → Bool
+keeps pick u f = holds_below (λ i. holds_below (λ e. eqb (bit_at (f (2 ^ e)) i) (cond (pick i) (bit_at (2 ^ e) (u i)) 0)) 8) 8
 
--- it is bit `at (v i)` where i isn't picked, and 0 elsewhere
-abbrev pub moves : ℕ → (ℕ → ℕ) → (ℕ → Bool) → (ℕ → ℕ) → (ℕ → ℕ) → Bool
-moves n at pick v g = holds_below (λ i. holds_below (λ e. eqb (bit_at (g (2 ^ e)) (at i)) (cond (pick i) 0 (bit_at (2 ^ e) (at (v i))))) n) 8
+-- it is bit `v i` where i isn't picked, and 0 elsewhere
+abbrev pub moves : (ℕ → Bool) → (ℕ → ℕ) → (ℕ → ℕ) → Bool
+moves pick v g = holds_below (λ i. holds_below (λ e. eqb (bit_at (g (2 ^ e)) i) (cond (pick i) 0 (bit_at (2 ^ e) (v i)))) 8) 8
 
-kept : (n : ℕ) (at : ℕ → ℕ) (pick : ℕ → Bool) (u f : ℕ → ℕ) → IsLinear f → T (keeps n at pick u f) → (a i : ℕ) → a < 2 ^ n → i < 8
-    → bit_at (f a) (at i) ≡ cond (pick i) (bit_at a (at (u i))) 0
-kept n at pick u f h computed a i l d =
-    same_wires (λ w. bit_at (f w) (at i)) (λ w. cond (pick i) (bit_at w (at (u i))) 0) (linear_bit h (at i))
-    (linear_choice (pick i) (linear_bit linear_self (at (u i))) linear_none) n
-    (λ e s. eqb→eq _ _ (at_each (λ e. eqb (bit_at (f (2 ^ e)) (at i)) (cond (pick i) (bit_at (2 ^ e) (at (u i))) 0)) n
-    (at_each (λ i. holds_below (λ e. eqb (bit_at (f (2 ^ e)) (at i)) (cond (pick i) (bit_at (2 ^ e) (at (u i))) 0)) n) 8 computed i d) e s)) a l
+kept : (pick : ℕ → Bool) (u f : ℕ → ℕ) → IsLinear f → T (keeps pick u f) → (a i : ℕ) → a < 2 ^ 8 → i < 8
+    → bit_at (f a) i ≡ cond (pick i) (bit_at a (u i)) 0
+kept pick u f h computed a i l d =
+    same_wires (λ w. bit_at (f w) i) (λ w. cond (pick i) (bit_at w (u i)) 0) (linear_bit h i)
+    (linear_choice (pick i) (linear_bit linear_self (u i)) linear_none) 8
+    (λ e s. eqb→eq _ _ (at_each (λ e. eqb (bit_at (f (2 ^ e)) i) (cond (pick i) (bit_at (2 ^ e) (u i)) 0)) 8
+    (at_each (λ i. holds_below (λ e. eqb (bit_at (f (2 ^ e)) i) (cond (pick i) (bit_at (2 ^ e) (u i)) 0)) 8) 8 computed i d) e s)) a l
 
-moved : (n : ℕ) (at : ℕ → ℕ) (pick : ℕ → Bool) (v g : ℕ → ℕ) → IsLinear g → T (moves n at pick v g) → (b i : ℕ) → b < 2 ^ n → i < 8
-    → bit_at (g b) (at i) ≡ cond (pick i) 0 (bit_at b (at (v i)))
-moved n at pick v g h computed b i l d =
-    same_wires (λ w. bit_at (g w) (at i)) (λ w. cond (pick i) 0 (bit_at w (at (v i)))) (linear_bit h (at i))
-    (linear_choice (pick i) linear_none (linear_bit linear_self (at (v i)))) n
-    (λ e s. eqb→eq _ _ (at_each (λ e. eqb (bit_at (g (2 ^ e)) (at i)) (cond (pick i) 0 (bit_at (2 ^ e) (at (v i))))) n
-    (at_each (λ i. holds_below (λ e. eqb (bit_at (g (2 ^ e)) (at i)) (cond (pick i) 0 (bit_at (2 ^ e) (at (v i))))) n) 8 computed i d) e s)) b l
+moved : (pick : ℕ → Bool) (v g : ℕ → ℕ) → IsLinear g → T (moves pick v g) → (b i : ℕ) → b < 2 ^ 8 → i < 8
+    → bit_at (g b) i ≡ cond (pick i) 0 (bit_at b (v i))
+moved pick v g h computed b i l d =
+    same_wires (λ w. bit_at (g w) i) (λ w. cond (pick i) 0 (bit_at w (v i))) (linear_bit h i)
+    (linear_choice (pick i) linear_none (linear_bit linear_self (v i))) 8
+    (λ e s. eqb→eq _ _ (at_each (λ e. eqb (bit_at (g (2 ^ e)) i) (cond (pick i) 0 (bit_at (2 ^ e) (v i)))) 8
+    (at_each (λ i. holds_below (λ e. eqb (bit_at (g (2 ^ e)) i) (cond (pick i) 0 (bit_at (2 ^ e) (v i)))) 8) 8 computed i d) e s)) b l
 
 one_of : (p : Bool) (x y : ℕ) → bit_xor (cond p x 0) (cond p 0 y) ≡ cond p x y
 one_of true x y = xor_zero_r x
 one_of false x y = refl
 
 -- the groups of two rows that are paired in one
-pub paired : (n : ℕ) (at : ℕ → ℕ) (pick : ℕ → Bool) (u v f g : ℕ → ℕ) → IsLinear f → IsLinear g
-    → T (keeps n at pick u f) → T (moves n at pick v g) → (a b i : ℕ) → a < 2 ^ n → b < 2 ^ n → i < 8
-    → bit_at (bit_xor (f a) (g b)) (at i) ≡ cond (pick i) (bit_at a (at (u i))) (bit_at b (at (v i)))
-paired n at pick u v f g h k p q a b i l d s =
-    bit_of_xor (f a) (g b) (at i)
-    ∙ both _ _ _ _ (kept n at pick u f h p a i l s) (moved n at pick v g k q b i d s)
+pub paired : (pick : ℕ → Bool) (u v f g : ℕ → ℕ) → IsLinear f → IsLinear g
+    → T (keeps pick u f) → T (moves pick v g) → (a b i : ℕ) → a < 2 ^ 8 → b < 2 ^ 8 → i < 8
+    → bit_at (bit_xor (f a) (g b)) i ≡ cond (pick i) (bit_at a (u i)) (bit_at b (v i))
+paired pick u v f g h k p q a b i l d s =
+    bit_of_xor (f a) (g b) i
+    ∙ both _ _ _ _ (kept pick u f h p a i l s) (moved pick v g k q b i d s)
     ∙ one_of (pick i) _ _
 
 -- ---- groups of bits exchanged
@@ -130,21 +130,21 @@ abbrev pub is_even : ℕ → ℕ → Bool
 is_even n i = i / n % 2 == 0
 
 -- the bits of a mask, moved n up
-abbrev pub raised : ℕ → ℕ → ℕ → ℕ → ℕ
-raised w n m x = bit_and x m * 2 ^ n % 2 ^ w
+abbrev pub raised : ℕ → ℕ → ℕ → ℕ
+raised n m x = bit_and x m * 2 ^ n % 2 ^ 8
 
--- what becomes of two words whose bits are flipped where they differ, once those of the first are moved n down
-abbrev pub evens : ℕ → ℕ → ℕ → ℕ → ℕ → ℕ
-evens w n m a b = bit_xor a (raised w n m (bit_xor (a / 2 ^ n) b))
+-- what becomes of two bytes whose bits are flipped where they differ, once those of the first are moved n down
+abbrev pub evens : ℕ → ℕ → ℕ → ℕ → ℕ
+evens n m a b = bit_xor a (raised n m (bit_xor (a / 2 ^ n) b))
 
 abbrev pub odds : ℕ → ℕ → ℕ → ℕ → ℕ
 odds n m a b = bit_xor b (bit_and (bit_xor (a / 2 ^ n) b) m)
 
--- what each of the two words gives to the first
-abbrev pub evens_self : ℕ → ℕ → ℕ → ℕ → ℕ
-evens_self w n m a = bit_xor a (raised w n m (a / 2 ^ n))
+-- what each of the two bytes gives to the first
+abbrev pub evens_self : ℕ → ℕ → ℕ → ℕ
+evens_self n m a = bit_xor a (raised n m (a / 2 ^ n))
 
--- what each of the two words gives to the second
+-- what each of the two bytes gives to the second
 abbrev pub odds_self : ℕ → ℕ → ℕ → ℕ
 odds_self n m a = bit_and (a / 2 ^ n) m
 
@@ -154,11 +154,11 @@ odds_other m b = bit_xor b (bit_and b m)
 linear_after : {f g : ℕ → ℕ} → IsLinear f → IsLinear g → IsLinear (λ w. g (f w))
 linear_after {f} {g} h k = record { sums = λ a b. ap g (h.sums a b) ∙ k.sums (f a) (f b) }
 
-pub linear_raised : (w n m : ℕ) → IsLinear (raised w n m)
-linear_raised w n m = linear_after (linear_and linear_self m) (linear_up n w)
+pub linear_raised : (n m : ℕ) → IsLinear (raised n m)
+linear_raised n m = linear_after (linear_and linear_self m) (linear_up n 8)
 
-pub linear_evens_self : (w n m : ℕ) → IsLinear (evens_self w n m)
-linear_evens_self w n m = linear_xor linear_self (linear_after (linear_down n) (linear_raised w n m))
+pub linear_evens_self : (n m : ℕ) → IsLinear (evens_self n m)
+linear_evens_self n m = linear_xor linear_self (linear_after (linear_down n) (linear_raised n m))
 
 pub linear_odds_self : (n m : ℕ) → IsLinear (odds_self n m)
 linear_odds_self n m = linear_and (linear_down n) m
@@ -166,9 +166,9 @@ linear_odds_self n m = linear_and (linear_down n) m
 pub linear_odds_other : (m : ℕ) → IsLinear (odds_other m)
 linear_odds_other m = linear_xor linear_self (linear_and linear_self m)
 
-pub evens_apart : (w n m a b : ℕ) → evens w n m a b ≡ bit_xor (evens_self w n m a) (raised w n m b)
-evens_apart w n m a b =
-    ap (bit_xor a) ((linear_raised w n m).sums (a / 2 ^ n) b) ∙ sym (xor_assoc a (raised w n m (a / 2 ^ n)) (raised w n m b))
+pub evens_apart : (n m a b : ℕ) → evens n m a b ≡ bit_xor (evens_self n m a) (raised n m b)
+evens_apart n m a b =
+    ap (bit_xor a) ((linear_raised n m).sums (a / 2 ^ n) b) ∙ sym (xor_assoc a (raised n m (a / 2 ^ n)) (raised n m b))
 
 pub odds_apart : (n m a b : ℕ) → odds n m a b ≡ bit_xor (odds_self n m a) (odds_other m b)
 odds_apart n m a b =

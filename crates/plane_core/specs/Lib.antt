@@ -1,4 +1,3 @@
-pub mod Affine
 pub mod Bits
 pub mod Circuit
 pub mod Grid

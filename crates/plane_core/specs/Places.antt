@@ -1,6 +1,6 @@
 -- Where the steps of a round take the bytes of a state from (FIPS 197, 5.1), and where planes have
 -- them. Byte r + 4 * c of a state is in row r and column c.
-use Rattle.std.specs.Prelude.{ℕ, ◌+◌, ◌-◌, ◌*◌, ◌/◌, ◌%◌, ◌^◌, List, bit_xor, slice_index}
+use Rattle.std.specs.Prelude.{ℕ, ◌+◌, ◌*◌, ◌/◌, ◌%◌, List, slice_index}
 use Rattle.std.specs.Int.{bit_at}
 
 -- ShiftRows: the byte that comes to j (5.1.2)
@@ -10,14 +10,6 @@ shifted j = (j + 4 * (j % 4)) % 16
 -- the byte n rows below j in its column, around the column's end
 abbrev pub below : ℕ → ℕ → ℕ
 below n j = j / 4 * 4 + (j + n) % 4
-
--- the bit of a word of 64 that byte j of block b, of four blocks, has in a plane
-abbrev pub spot : ℕ → ℕ → ℕ
-spot j b = 8 * (j % 8) + 4 * (j / 8) + b
-
--- the bit of byte j of block b, of four blocks, in a word
-abbrev pub word_bit : ℕ → ℕ → ℕ → ℕ
-word_bit w j b = bit_at w (spot j (b % 4))
 
 -- the lane of a vector of 16 that byte j of each block, of eight blocks, has in a plane: row by row
 abbrev pub lane : ℕ → ℕ
@@ -35,7 +27,3 @@ wide_lane j b = 16 * (b % 16 / 8) + lane j
 -- the bit of byte j of block b in a vector of 32
 abbrev pub wide_bit : List ℕ → ℕ → ℕ → ℕ
 wide_bit v j b = bit_at (slice_index v (wide_lane j b)) (b % 8)
-
--- a word of 64 bits, each bit moved n places down, around the end
-abbrev pub turned : ℕ → ℕ → ℕ
-turned w n = bit_xor (w / 2 ^ n) (w * 2 ^ (64 - n) % 2 ^ 64)

@@ -1,6 +1,6 @@
 //! Words of bytes as rows of bits, and how eight of them are turned into columns.
 
-ghost use Rattle.std.specs.Prelude.{◌≡◌, ℕ, ◌+◌, ◌*◌, ◌%◌, ◌<◌, map, slice_index};
+ghost use Rattle.std.specs.Prelude.{◌≡◌, ℕ, ◌<◌, map, slice_index};
 ghost use Rattle.std.specs.List.{range_with_len};
 ghost use Rattle.std.specs.Int.{bit_at};
 ghost use Rattle.plane_core.specs.Grid.{even_groups, odd_groups, bit_row, plane_word};
@@ -105,38 +105,6 @@ impl Grid for u8x32 {
         let differing = ((self >> u8x32::splat(4)) ^ other) & u8x32::splat(0x0f);
         Pair {
             low: self ^ (differing << u8x32::splat(4)),
-            high: other ^ differing,
-        }
-    }
-}
-
-// The same on eight bytes.
-impl Grid for u64 {
-    ghost cell = { λ w k i. bit_at w (8 * (k % 8) + i) };
-
-    #[inline(always)]
-    fn ones(self, other: u64) -> Pair<u64> {
-        let differing = ((self >> 1) ^ other) & 0x5555_5555_5555_5555;
-        Pair {
-            low: self ^ (differing << 1),
-            high: other ^ differing,
-        }
-    }
-
-    #[inline(always)]
-    fn twos(self, other: u64) -> Pair<u64> {
-        let differing = ((self >> 2) ^ other) & 0x3333_3333_3333_3333;
-        Pair {
-            low: self ^ (differing << 2),
-            high: other ^ differing,
-        }
-    }
-
-    #[inline(always)]
-    fn fours(self, other: u64) -> Pair<u64> {
-        let differing = ((self >> 4) ^ other) & 0x0f0f_0f0f_0f0f_0f0f;
-        Pair {
-            low: self ^ (differing << 4),
             high: other ^ differing,
         }
     }

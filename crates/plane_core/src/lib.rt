@@ -3,10 +3,8 @@
 
 pub mod circuit;
 pub mod eight;
-pub mod four;
 pub mod grid;
 pub mod plane;
 pub mod planes;
-pub mod power;
 pub mod rounds;
 pub mod sixteen;

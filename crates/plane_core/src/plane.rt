@@ -1,10 +1,9 @@
 //! A bit plane: one bit of each byte of several blocks.
 
-ghost use Rattle.std.specs.Prelude.{◌≡◌, ℕ, ◌+◌, ◌*◌, ◌/◌, ◌%◌, ◌<◌, bit_and, bit_xor, slice_index};
+ghost use Rattle.std.specs.Prelude.{◌≡◌, ℕ, ◌%◌, ◌<◌, bit_and, bit_xor, slice_index};
 ghost use Rattle.std.specs.Int.{bit_at};
 ghost use Rattle.plane_core.specs.Bits.{bit_is_small};
-ghost use Rattle.plane_core.specs.Places.{below, lane, lane_bit, shifted, spot, turned, wide_bit};
-ghost use Rattle.plane_core.specs.Places.{wide_lane, word_bit};
+ghost use Rattle.plane_core.specs.Places.{below, lane, lane_bit, shifted, wide_bit, wide_lane};
 
 use std::simd::prelude::*;
 
@@ -109,52 +108,4 @@ impl Plane for u8x32 {
     }
 
     ghost is_bit = { λ v j b. bit_is_small (slice_index v (wide_lane j b)) (b % 8) };
-}
-
-/// A word, each bit moved n places down, around the end.
-#[inline(always)]
-fn turned(w: u64, n: u32) -> u64
-    requires some { 0 < n }
-    requires few { n < 64 }
-    ensures { result ≡ turned w n }
-{
-    (w >> n) ^ (w << (64 - n))
-}
-
-// Four blocks: byte j % 8 of the word has byte j of each block, in its lower four bits where j is
-// below 8, and else in its upper four.
-impl Plane for u64 {
-    ghost bit = { word_bit };
-
-    #[inline(always)]
-    fn xor(self, other: u64) -> u64 {
-        self ^ other
-    }
-
-    #[inline(always)]
-    fn and(self, other: u64) -> u64 {
-        self & other
-    }
-
-    #[inline(always)]
-    fn shifted(self) -> u64 {
-        (self & 0x0000_00ff_0000_00ff)
-            ^ (turned(self, 32) & 0xff00_0000_0000_ff00)
-            ^ (turned(self, 4) & 0x000f_0000_000f_0000)
-            ^ (turned(self, 60) & 0x00f0_0000_00f0_0000)
-            ^ (turned(self, 36) & 0x0000_0f00_0f00_0000)
-            ^ (turned(self, 28) & 0x0000_f000_f000_0000)
-    }
-
-    #[inline(always)]
-    fn below(self) -> u64 {
-        ((self >> 8) & 0x00ff_ffff_00ff_ffff) ^ ((self << 24) & 0xff00_0000_ff00_0000)
-    }
-
-    #[inline(always)]
-    fn two_below(self) -> u64 {
-        ((self >> 16) & 0x0000_ffff_0000_ffff) ^ ((self << 16) & 0xffff_0000_ffff_0000)
-    }
-
-    ghost is_bit = { λ w j b. bit_is_small w (spot j (b % 4)) };
 }

@@ -3,7 +3,7 @@
 //! SubBytes works on each byte alone, so ShiftRows may come before it as well as behind it.
 
 ghost use Rattle.std.specs.Prelude.{◌≡◌, ℕ, ◌<◌};
-ghost use Rattle.cipher_spec.specs.Aes.{add_round_key, mix_columns, shift_rows};
+ghost use Rattle.cipher_spec.specs.Aes.{add_round_key, mix_columns};
 ghost use Rattle.plane_core.specs.Bits.{block, byte_of, mixed_byte};
 ghost use Rattle.plane_core.specs.Places.{below, shifted};
 
@@ -90,22 +90,4 @@ pub fn mixed_and_keyed<P: Plane>(x: &Planes<P>, key: &Planes<P>) -> Planes<P>
         (block P.bit key.now b) }
 {
     keyed(&mixed(x), key)
-}
-
-/// A round after SubBytes.
-#[inline(always)]
-pub fn round<P: Plane>(x: &Planes<P>, key: &Planes<P>) -> Planes<P>
-    ensures { (b : ℕ) → block P.bit result b
-        ≡ add_round_key (mix_columns (shift_rows (block P.bit x.now b))) (block P.bit key.now b) }
-{
-    mixed_and_keyed(&shifted(x), key)
-}
-
-/// The last round after SubBytes.
-#[inline(always)]
-pub fn last_round<P: Plane>(x: &Planes<P>, key: &Planes<P>) -> Planes<P>
-    ensures { (b : ℕ) → block P.bit result b
-        ≡ add_round_key (shift_rows (block P.bit x.now b)) (block P.bit key.now b) }
-{
-    keyed(&shifted(x), key)
 }

@@ -1,4 +1,4 @@
-use Rattle.std.proofs.Common.{◌∙◌, ap, get_or, ◌≡◌, ◌+◌, arith}
+use Rattle.std.proofs.Common.{arith}
 use Rattle.plane_core.proofs.WideLanes.{lane_cut}
 use Rattle.plane_core.proofs.sixteen.high.Goals as goal
 
