@@ -21,10 +21,22 @@ time_width() {
     fi
 }
 
-# Each round: the ciphers of both widths, and those of `times_before`, OpenSSL without AES instructions, and each program over
-# 64 MiB, in a folder of their own.
+# Each program's turn: it encrypts the 64 MiB once, and decrypts them twice.
+take_wide_turns() {
+    local each name
+    for each in "$program" "$wide" $beside; do
+        name=$(basename "$each")
+        run_once "$name encrypt" plain /dev/null "$each" encrypt --keyring ring
+        run_once "$name decrypt" message written "$each" decrypt --keyring ring
+        cmp plain written
+        run_once "$name decrypt" message /dev/null "$each" decrypt --keyring ring
+    done
+}
+
+# Each round: the ciphers of both widths, and those of `times_before`, OpenSSL without AES instructions, and three turns of each
+# program, in a folder of their own. Of a command that takes a quarter of a second few runs are left alone by other work.
 measure_widths() (
-    local i each name
+    local i
     mkdir widths
     cd widths || exit
     make_ready
@@ -39,13 +51,7 @@ measure_widths() (
         ./times_of_32_bytes | sed 's/^/32 /' >>kernels
         [ ! -x times_before ] || ./times_before | sed 's/^/before /' >>kernels
         ask_openssl
-        for each in "$program" "$wide" $beside; do
-            name=$(basename "$each")
-            run_once "$name encrypt" plain /dev/null "$each" encrypt --keyring ring
-            run_once "$name decrypt" message written "$each" decrypt --keyring ring
-            cmp plain written
-            run_once "$name decrypt" message /dev/null "$each" decrypt --keyring ring
-        done
+        for _ in 1 2 3; do take_wide_turns; done
     done
     echo "$without $without_long" >openssl
 )
