@@ -102,6 +102,11 @@ pub done : {P : Type 0} (leaf : P → KeyringMeaning) (old now : List (Node P)) 
 done leaf old now i c key random rest start es m all = rw (m.old_is, m.now_is, m.random_is)
     (done_at leaf m.before m.asked m.left c key m.used rest start es (omega (arith, ap length m.now_is, length-append m.asked m.left, m.at, all)) m.room m.stays m.appends m.once)
 
+pub done_appends : {P : Type 0} (leaf : P → KeyringMeaning) (old now : List (Node P)) (i : ℕ) (c : List KeyValue) (key random rest : List ℕ) (start es : List Entry) (wrapped : WrappedValue)
+    → Midway leaf old now i c key random rest start es → length now ≤ i → wrapped.entries ≡ es → Appends (map (tree_meaning leaf) old) c key random start wrapped.entries
+done_appends leaf old now i c key random rest start es wrapped m all is =
+    subst (λ (l : List Entry). Appends (map (tree_meaning leaf) old) c key random start l) (sym is) (done leaf old now i c key random rest start es m all).appends
+
 -- by the keys that its trees went by
 pub done_by : {P : Type 0} (leaf : P → KeyringMeaning) (old now : List (Node P)) (i : ℕ) (c : List KeyValue) (key random rest : List ℕ) (start es : List Entry) (wrapped : WrappedValue)
     → Midway leaf old now i c key random rest start es → length now ≤ i → wrapped.entries ≡ es

@@ -1,15 +1,16 @@
 -- What trees in a row find together, one after the other.
 use Rattle.std.proofs.Common.{◌≡◌, ℕ, ◌+◌, ◌≤◌, ◌<◌, Bool, true, false, List, [], ◌∷◌, ◌++◌, length, map, slice_index_or, slice_set, Option, Some, None, refl, sym, ap, ◌∙◌, subst, arith, length-append}
-use Rattle.std.specs.Prelude.{Result, Ok, Err}
-use Rattle.std.proofs.lemmas.List.{append_assoc, append-nil, map-append}
+use Rattle.std.specs.Prelude.{IfSome, IfOk, IfErr, Result, Ok, Err}
+use Rattle.std.proofs.lemmas.List.{append_assoc, append-nil, map-append, length-map}
 use Rattle.std.proofs.Math.Seq.{set-append_seam, get_or-append_seam}
 use Rattle.context_codec.specs.Context.{KeyValue}
 use Rattle.edk_codec.specs.Entry.{Entry}
-use Rattle.keyring_trait.specs.Wrapping.{unwrapped}
-use Rattle.keyring_trait.specs.Keyring.{KeyringMeaning, KeyringGoes, FindsBy}
+use Rattle.esdk_fields.specs.Counts.{Stayed}
+use Rattle.keyring_trait.specs.Wrapping.{WrapKeyValue, unwrapped}
+use Rattle.keyring_trait.specs.Keyring.{KeyringMeaning, KeyringGoes, Opens, OpensWith, UnwrapCause, FindsBy}
 use Rattle.keyring_trait.specs.Uses.{AskedOnce}
 use Rattle.keyring_trait.specs.declared.ring_refusals.RingError.{RingError}
-use Rattle.keyring_trait.specs.declared.ring_refusals.RingError.TheVariants.{KeyringFault}
+use Rattle.keyring_trait.specs.declared.ring_refusals.RingError.TheVariants.{Refused, KeyringFault, Memory}
 use Rattle.raw_aes_keyring.specs.Keyring.{raw_meaning}
 use Rattle.multi_keyring.specs.Nodes.{forest, node_height, all_of, generator_first}
 use Rattle.multi_keyring.specs.Tree.{both_keys, all_keys, all_faults, all_uses, leaves, node_leaves, tree_meaning}
@@ -55,6 +56,10 @@ counted_goes (m ∷ ms) counted = (
 -- trees that aren't asked stay as they are
 pub stays_same : {P : Type 0} (leaf : P → KeyringMeaning) (nodes : List (Node P)) → AllCounted (map (tree_meaning leaf) nodes) → Stays leaf nodes nodes
 stays_same leaf nodes counted = record { heights = refl; goes = counted_goes (map (tree_meaning leaf) nodes) counted }
+
+-- a row that stays is as long as it was
+pub stays_long : {P : Type 0} (leaf : P → KeyringMeaning) (old now : List (Node P)) → Stays leaf old now → length now ≡ length old
+stays_long leaf old now stays = sym (length-map now node_height) ∙ (ap length stays.heights ∙ length-map old node_height)
 
 -- a row that found no key, and another that was asked after it
 pub unwraps_join : {P : Type 0} (leaf : P → KeyringMeaning) (f : Bool) (r : Result (Option (List ℕ)) RingError) (os ns ps qs : List (Node P)) (c : List KeyValue) (es : List Entry)
@@ -120,6 +125,19 @@ one_unwraps leaf o n c es r is = record {
   behind = rw (leaves_one leaf o, leaves_one leaf n) is.behind;
 }
 
+none_told : (told : Option (List WrapKeyValue)) (stayed : Type 0) (c : List KeyValue) (es : List Entry) → IfSome told (λ keys. OpensWith keys es c stayed None) → IfSome told (λ keys. unwrapped keys es c ≡ None)
+none_told None stayed c es opens = tt
+none_told (Some keys) stayed c es opens = opens.none refl
+
+-- where a leaf found no key, it opens no entry
+pub leaf_none : (m n : KeyringMeaning) (c : List KeyValue) (es : List Entry) (r : Result (Option (List ℕ)) RingError) → IfOk r (Opens m n c es) → IfErr r (UnwrapCause m.faults n.faults)
+    → FindsNoKey r → NoneOpens (m ∷ []) (n ∷ []) c es
+leaf_none m n c es (Ok None) opens cause nothing = (λ stayed. none_told m.keys (Stayed m.faults n.faults) c es opens, tt)
+leaf_none m n c es (Ok (Some key)) opens cause nothing = absurd nothing
+leaf_none m n c es (Err (Refused r)) opens cause nothing = absurd nothing
+leaf_none m n c es (Err KeyringFault) opens cause nothing = (λ stayed. absurd (omega (arith, cause, stayed)), tt)
+leaf_none m n c es (Err Memory) opens cause nothing = absurd nothing
+
 -- no tree finds no key
 pub unwraps_none : {P : Type 0} (leaf : P → KeyringMeaning) (c : List KeyValue) (es : List Entry) → Unwraps {P = P} leaf [] [] c es (Ok None)
 unfolding unwrapped
@@ -165,6 +183,10 @@ at_end leaf f before asked (y ∷ left) c es none u = absurd (omega (arith, none
 pub ends_all : {P : Type 0} (leaf : P → KeyringMeaning) (old now : List (Node P)) (i : ℕ) (f : Bool) (c : List KeyValue) (es : List Entry) → Between leaf old now i f c es → length now ≤ i
     → Unwraps leaf old now c es (so_far f)
 ends_all leaf old now i f c es b all = rw (b.old_is, b.now_is) (at_end leaf f b.before b.asked b.left c es (omega (arith, ap length b.now_is, length-append b.asked b.left, b.at, all)) b.unwraps)
+
+pub ends_with : {P : Type 0} (leaf : P → KeyringMeaning) (old now : List (Node P)) (i : ℕ) (f g : Bool) (c : List KeyValue) (es : List Entry) → Between leaf old now i f c es → length now ≤ i → f ≡ g
+    → Unwraps leaf old now c es (so_far g)
+ends_with leaf old now i f g c es b all is = subst (λ (h : Bool). Unwraps leaf old now c es (so_far h)) is (ends_all leaf old now i f c es b all)
 
 after-ends : (f : Bool) (r : Result (Option (List ℕ)) RingError) → (FindsNoKey r → ⊥) → after f r ≡ r
 after-ends false r ends = refl

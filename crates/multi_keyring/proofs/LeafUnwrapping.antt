@@ -1,7 +1,7 @@
 -- Where a leaf stands, and what asking it keeps.
-use Rattle.std.proofs.Common.{◌≡◌, ℕ, ◌+◌, ◌-◌, ◌≤◌, ◌<◌, List, [], ◌∷◌, ◌++◌, length, drop, map, slice_index_or, slice_set, Option, Some, refl, sym, ap, ◌∙◌, subst, arith, length-append}
+use Rattle.std.proofs.Common.{◌≡◌, ℕ, suc, ◌+◌, ◌-◌, ◌≤◌, ◌<◌, List, [], ◌∷◌, ◌++◌, length, drop, map, slice_index_or, slice_set, Option, Some, refl, sym, ap, ◌∙◌, subst, arith, length-append, drop-cons, add-one}
 use Rattle.std.specs.Prelude.{IfOk, IfErr, Result, Ok, Err}
-use Rattle.std.proofs.lemmas.List.{append_assoc, append-nil, map-append}
+use Rattle.std.proofs.lemmas.List.{append_assoc, append-nil, drop_all, map-append}
 use Rattle.std.proofs.Math.Seq.{set-append_seam, get_or-append_seam}
 use Rattle.context_codec.specs.Context.{KeyValue}
 use Rattle.edk_codec.specs.Entry.{Entry}
@@ -43,6 +43,40 @@ split_length leaf before node behind = omega (
   ap length (leaves-append leaf before (node ∷ behind)),
   length-append (leaves leaf (forest before)) (leaves leaf (forest (node ∷ behind))),
   leaves_first leaf node behind,
+)
+
+-- ---- the number of leaves
+
+-- those of the tree at the index, and those behind it
+tally_from : {P : Type 0} (leaf : P → KeyringMeaning) (nodes : List (Node P)) (i : ℕ) (node : Node P) → i < length nodes → node ≡ slice_index_or nodes i node
+    → length (leaves leaf (forest (drop i nodes))) ≡ length (node_leaves leaf node) + length (leaves leaf (forest (drop (i + 1) nodes)))
+tally_from {P = P} leaf nodes i node some is =
+    let next = drop-cons nodes i node some ∙ ap (λ (n : Node P). n ∷ drop (suc i) nodes) (sym is) ∙ ap (λ (k : ℕ). node ∷ drop k nodes) (sym (add-one i)) in
+    ap (λ (l : List (Node P)). length (leaves leaf (forest l))) next ∙ leaves_first leaf node (drop (i + 1) nodes)
+
+pub tally_more : {P : Type 0} (leaf : P → KeyringMeaning) (nodes : List (Node P)) (i count own : ℕ) (node : Node P) → i < length nodes → node ≡ slice_index_or nodes i node
+    → length (leaves leaf (forest nodes)) ≡ count + length (leaves leaf (forest (drop i nodes))) → own ≡ length (node_leaves leaf node)
+    → length (leaves leaf (forest nodes)) ≡ count + own + length (leaves leaf (forest (drop (i + 1) nodes)))
+tally_more leaf nodes i count own node some is so_far own_is = omega (arith, so_far, own_is, tally_from leaf nodes i node some is)
+
+pub tally_few : {P : Type 0} (leaf : P → KeyringMeaning) (nodes : List (Node P)) (i count own : ℕ) (node : Node P) → i < length nodes → node ≡ slice_index_or nodes i node
+    → length (leaves leaf (forest nodes)) ≡ count + length (leaves leaf (forest (drop i nodes))) → own ≡ length (node_leaves leaf node) → count + own ≤ length (leaves leaf (forest nodes))
+tally_few leaf nodes i count own node some is so_far own_is = omega (arith, so_far, own_is, tally_from leaf nodes i node some is)
+
+pub tally_all : {P : Type 0} (leaf : P → KeyringMeaning) (nodes : List (Node P)) (i count : ℕ) → length nodes ≤ i
+    → length (leaves leaf (forest nodes)) ≡ count + length (leaves leaf (forest (drop i nodes))) → count ≡ length (leaves leaf (forest nodes))
+tally_all {P = P} leaf nodes i count all so_far = omega (arith, so_far, ap (λ (l : List (Node P)). length (leaves leaf (forest l))) (drop_all i nodes all))
+
+-- those of the generator, and those of the children
+pub tally_members : {P : Type 0} (leaf : P → KeyringMeaning) (members : Members P) (generator : Node P) (shown : List (Node P)) (own others : ℕ) → members.generator ≡ Some generator
+    → shown ≡ members.children.items → own ≡ length (node_leaves leaf generator) → others ≡ length (leaves leaf (forest shown)) → own + others ≡ length (leaves leaf (forest (all_of members)))
+tally_members {P = P} leaf members generator shown own others has shown_is own_is others_is = omega (
+  arith,
+  own_is,
+  others_is,
+  ap (λ (l : List (Node P)). length (leaves leaf (forest l))) shown_is,
+  ap (λ (l : List (Node P)). length (leaves leaf (forest l))) (all_with members generator has),
+  leaves_first leaf generator members.children.items,
 )
 
 -- ---- the search for a leaf

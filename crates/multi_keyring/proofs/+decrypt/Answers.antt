@@ -1,7 +1,8 @@
 use Rattle.std.proofs.Common.{rules, arith, ◌+◌, refl, sym, ap, ◌∙◌, Some, true, false}
 use Rattle.std.specs.Prelude.{is_some, Ok, Err}
 use Rattle.keyring_trait.specs.declared.ring_refusals.RingError.TheVariants.{Refused, KeyringFault, Memory}
-use Rattle.multi_keyring.proofs.Finding.{starts, ends_here, goes_on, generator_ends, generator_goes_on, after_none, after_fault}
+use Rattle.raw_aes_keyring.specs.Keyring.{raw_meaning}
+use Rattle.multi_keyring.proofs.Finding.{starts, ends_here, ends_with, goes_on, stays_long, leaf_none, generator_ends, generator_goes_on, after_none, after_fault}
 use Rattle.multi_keyring.proofs.Joining.{after, so_far}
 use Rattle.multi_keyring.proofs.Unvisited.{still_unvisited}
 use Rattle.multi_keyring.proofs.Multis.{value_of, height_stays, value_height, multi_goes, multi_opens, multi_used, multi_behind}
@@ -108,21 +109,21 @@ pub unwrapping::unwrap_with_any-returns-in-Ok-Some :
     goal.unwrapping::unwrap_with_any-returns-in-Ok-Some
 unwrapping::unwrap_with_any-returns-in-Ok-Some g t c =
     ends_here g.P.Keyring.meaning c.args.nodes.now.items c.loop-i.nodes.items c.loop-i.i c.loop-i.failed c.args.context.now c.args.entries.now c.index_mut.result.now c.decrypt.new.self
-    c.decrypt.result (Ok (Some c.in-Ok-Some.key)) c.loop-i.invariant.1 (search rules) (search rules)
+    c.decrypt.result (Ok (Some c.in-Ok-Some.key)) c.loop-i.invariant.1 (omega (arith, c.loop-i-test.true, c.loop-i.invariant.0.0)) (sym c.index_mut.ensures.value)
     (record { height = c.decrypt.ensures.height; goes = c.decrypt.ensures.goes; opens = c.decrypt.ensures.opens; used = c.decrypt.ensures.used; none = c.decrypt.ensures.none; behind = c.decrypt.ensures.behind })
     (c.in-Ok-Some.is ∙ ap Ok c.in-Ok-Some.field-0-is) (λ n. n)
 
 pub unwrapping::unwrap_with_any-returns-in-Err-Refused : goal.unwrapping::unwrap_with_any-returns-in-Err-Refused
 unwrapping::unwrap_with_any-returns-in-Err-Refused g t c =
     ends_here g.P.Keyring.meaning c.args.nodes.now.items c.loop-i.nodes.items c.loop-i.i c.loop-i.failed c.args.context.now c.args.entries.now c.index_mut.result.now c.decrypt.new.self
-    c.decrypt.result (Err (Refused c.in-Err-Refused.refusal)) c.loop-i.invariant.1 (search rules) (search rules)
+    c.decrypt.result (Err (Refused c.in-Err-Refused.refusal)) c.loop-i.invariant.1 (omega (arith, c.loop-i-test.true, c.loop-i.invariant.0.0)) (sym c.index_mut.ensures.value)
     (record { height = c.decrypt.ensures.height; goes = c.decrypt.ensures.goes; opens = c.decrypt.ensures.opens; used = c.decrypt.ensures.used; none = c.decrypt.ensures.none; behind = c.decrypt.ensures.behind })
     (c.in-Err-Refused.is ∙ ap Err c.in-Err-Refused.field-0-is) (λ n. n)
 
 pub unwrapping::unwrap_with_any-returns-in-Err-Memory : goal.unwrapping::unwrap_with_any-returns-in-Err-Memory
 unwrapping::unwrap_with_any-returns-in-Err-Memory g t c =
     ends_here g.P.Keyring.meaning c.args.nodes.now.items c.loop-i.nodes.items c.loop-i.i c.loop-i.failed c.args.context.now c.args.entries.now c.index_mut.result.now c.decrypt.new.self
-    c.decrypt.result (Err Memory) c.loop-i.invariant.1 (search rules) (search rules)
+    c.decrypt.result (Err Memory) c.loop-i.invariant.1 (omega (arith, c.loop-i-test.true, c.loop-i.invariant.0.0)) (sym c.index_mut.ensures.value)
     (record { height = c.decrypt.ensures.height; goes = c.decrypt.ensures.goes; opens = c.decrypt.ensures.opens; used = c.decrypt.ensures.used; none = c.decrypt.ensures.none; behind = c.decrypt.ensures.behind })
     (c.in-Err-Memory.is ∙ ap Err c.in-Err-Memory.field-0-is) (λ n. n)
 
@@ -131,7 +132,7 @@ pub unwrapping::unwrap_with_any-loop-i-preserved :
 unwrapping::unwrap_with_any-loop-i-preserved g t c = (
   still_unvisited c.loop-i.nodes.items c.args.nodes.now.items c.loop-i.i c.decrypt.new.self c.loop-i.invariant.0,
   goes_on g.P.Keyring.meaning c.args.nodes.now.items c.loop-i.nodes.items c.loop-i.i c.loop-i.failed c.match-decrypt.failed c.args.context.now c.args.entries.now c.index_mut.result.now
-      c.decrypt.new.self c.decrypt.result c.loop-i.invariant.1 (search rules) (search rules)
+      c.decrypt.new.self c.decrypt.result c.loop-i.invariant.1 (omega (arith, c.loop-i-test.true, c.loop-i.invariant.0.0)) (sym c.index_mut.ensures.value)
       (record { height = c.decrypt.ensures.height; goes = c.decrypt.ensures.goes; opens = c.decrypt.ensures.opens; used = c.decrypt.ensures.used; none = c.decrypt.ensures.none; behind = c.decrypt.ensures.behind })
       (elim c.match-decrypt.branch [
         | unwrapping::unwrap_with_any-in-Ok-None w ↦
@@ -140,3 +141,46 @@ unwrapping::unwrap_with_any-loop-i-preserved g t c = (
             ap (after c.loop-i.failed) (w.in-Err-KeyringFault.is ∙ ap Err w.in-Err-KeyringFault.field-0-is) ∙ (after_fault c.loop-i.failed ∙ ap so_far (sym w.failed-is))
       ]),
 )
+
+pub tree::Members::decrypt-returns-in_default-clause-few :
+    goal.tree::Members::decrypt-returns-in_default-clause-few
+tree::Members::decrypt-returns-in_default-clause-few g t c =
+    stays_long g.P.Keyring.meaning c.args.self.now.children.items c.unwrap_with_any.new.nodes.items c.unwrap_with_any.ensures.stays
+
+pub tree::Members::decrypt-returns-in-Ok-None-clause-few :
+    goal.tree::Members::decrypt-returns-in-Ok-None-clause-few
+tree::Members::decrypt-returns-in-Ok-None-clause-few g t c =
+    stays_long g.P.Keyring.meaning c.args.self.now.children.items c.unwrap_with_any-in-Ok-None.new.nodes.items c.unwrap_with_any-in-Ok-None.ensures.stays
+
+pub tree::Members::decrypt-returns-in-Ok-Some-unwrap_with_any-clause-few :
+    goal.tree::Members::decrypt-returns-in-Ok-Some-unwrap_with_any-clause-few
+tree::Members::decrypt-returns-in-Ok-Some-unwrap_with_any-clause-few g t c =
+    stays_long g.P.Keyring.meaning c.args.self.now.children.items c.unwrap_with_any-in-Err-KeyringFault.new.nodes.items c.unwrap_with_any-in-Err-KeyringFault.ensures.stays
+
+pub tree::Members::decrypt-returns-in-Ok-None-unwrap_with_any-clause-few :
+    goal.tree::Members::decrypt-returns-in-Ok-None-unwrap_with_any-clause-few
+tree::Members::decrypt-returns-in-Ok-None-unwrap_with_any-clause-few g t c =
+    stays_long g.P.Keyring.meaning c.args.self.now.children.items c.unwrap_with_any-in-Err-KeyringFault.new.nodes.items c.unwrap_with_any-in-Err-KeyringFault.ensures.stays
+
+pub tree::Members::decrypt-returns-in-Err-clause-few :
+    goal.tree::Members::decrypt-returns-in-Err-clause-few
+tree::Members::decrypt-returns-in-Err-clause-few g t c =
+    stays_long g.P.Keyring.meaning c.args.self.now.children.items c.unwrap_with_any-in-Err-KeyringFault.new.nodes.items c.unwrap_with_any-in-Err-KeyringFault.ensures.stays
+
+pub unwrapping::unwrap_with_any-returns-then-failed :
+    goal.unwrapping::unwrap_with_any-returns-then-failed
+unwrapping::unwrap_with_any-returns-then-failed g t c =
+    ends_with g.P.Keyring.meaning c.args.nodes.now.items c.loop-i.nodes.items c.loop-i.i c.loop-i.failed true c.args.context.now c.args.entries.now c.loop-i.invariant.1
+    (omega (arith, c.loop-i-test.false, c.loop-i.invariant.0.0)) c.if-failed.true
+
+pub unwrapping::unwrap_with_any-returns-else-failed :
+    goal.unwrapping::unwrap_with_any-returns-else-failed
+unwrapping::unwrap_with_any-returns-else-failed g t c =
+    ends_with g.P.Keyring.meaning c.args.nodes.now.items c.loop-i.nodes.items c.loop-i.i c.loop-i.failed false c.args.context.now c.args.entries.now c.loop-i.invariant.1
+    (omega (arith, c.loop-i-test.false, c.loop-i.invariant.0.0)) c.if-failed.false
+
+pub tree::Node::decrypt-returns-in-Raw-clause-none :
+    goal.tree::Node::decrypt-returns-in-Raw-clause-none
+tree::Node::decrypt-returns-in-Raw-clause-none g t c =
+    rw c.in-Raw.is
+    (leaf_none (raw_meaning c.in-Raw.keyring) (raw_meaning c.on_decrypt.new.self) c.args.context.now c.args.entries.now c.on_decrypt.result c.on_decrypt.ensures.opens c.on_decrypt.ensures.cause)
