@@ -33,13 +33,6 @@ word_is word some short = rw (ne_eqb (length word) 0 (λ e. omega arith), le-leb
 
 -- ---- parts
 
-pub other_parts : (parts : List (List ℕ)) → length parts ≢ 3 → key_in_parts parts ≡ Err (BadShape 1)
-other_parts [] other = refl
-other_parts (a ∷ []) other = refl
-other_parts (a ∷ b ∷ []) other = refl
-other_parts (a ∷ b ∷ c ∷ []) other = absurd (other refl)
-other_parts (a ∷ b ∷ c ∷ d ∷ parts) other = refl
-
 -- the parts of this key
 pub record AreParts (parts : List (List ℕ)) (w : WrapKeyValue) : Type 0 where
   pub digits : List ℕ

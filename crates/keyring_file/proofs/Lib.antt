@@ -13,6 +13,7 @@ pub mod Multis
 pub mod NewFiles
 pub mod Plains
 pub mod RawKeys
+pub mod RawMembers
 pub mod RawNodes
 pub mod Renewed
 pub mod Rewritten
