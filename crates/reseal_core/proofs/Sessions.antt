@@ -22,6 +22,7 @@ use Rattle.message_format.proofs.Judging.{judged_wanting}
 use Rattle.esdk_decrypt.proofs.Answering.{still_wanting}
 use Rattle.esdk_decrypt.proofs.Concluding.{has_context, is_whole, some_context}
 use Rattle.esdk_decrypt.specs.Decrypt.{fault_at_end}
+use Rattle.whole_input.specs.declared.pieces.End.TheVariants.{Seen}
 use Rattle.reseal_core.specs.declared.errors.InputError.{InputError}
 use Rattle.reseal_core.specs.declared.errors.ResealError.{ResealError}
 use Rattle.reseal_core.specs.declared.errors.ResealError.TheVariants as errors
@@ -31,7 +32,7 @@ use Rattle.reseal_core.specs.Errors.{open_error_as}
 use Rattle.reseal_core.specs.NewMessage.{FinishesAs, IsWritten}
 use Rattle.reseal_core.specs.Session.{ResealingValue, new_resealing_session, text_so_far}
 use Rattle.reseal_core.specs.Stands.{ResealerFinishes, Stands}
-use Rattle.reseal_core.specs.Underway.{ConcludesNewMessage, ResealErrorIsCalled}
+use Rattle.reseal_core.specs.Underway.{ConcludesNewMessage, EndsNewMessage, EndsResealing, ResealErrorIsCalled}
 use Rattle.reseal_core.proofs.Unlocked.{locked_content, whole_unlocked}
 
 -- ---- a new one
@@ -131,6 +132,11 @@ module _ (v : ResealingValue) (old new : SinkState) where
   concludes_err unwritten errors.KeyringFault named on kept (whole, (m, is, none)) called = absurd none
   concludes_err unwritten errors.Stopped named on kept (whole, (m, is, none)) called = absurd none
   concludes_err unwritten errors.Memory named on kept (whole, (m, is, none)) called = absurd none
+
+  -- where all bytes came, so does the run
+  pub seen_ends : (result : Result (Unit {0}) InputError) → EndsNewMessage v old new result → EndsResealing v old new Seen result
+  seen_ends (Ok done) is = (refl, is)
+  seen_ends (Err error) is = is
 
   pub unstopped_end : (unwritten : Type 0) → ResealerFinishes v old new unwritten (Err errors.Stopped) → ⊥
   unstopped_end unwritten (whole, (m, is, none)) = none

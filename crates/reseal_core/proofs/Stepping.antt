@@ -74,9 +74,6 @@ not_on m size random written before text old mid new errors.Memory gained none =
 
 -- ---- the new message's materials
 
-kept_some : {A : Type 0} (a : A) (o : Option A) → Some a ≡ o → is_some o ≡ true
-kept_some a o e = sym (ap is_some e)
-
 pub unlocked_with : (m : Option EncMaterialsValue) (saying : Saying) (now : ℕ) (random : List ℕ) (w : OpeningValue) (unasked : Type 0) (materials : Option EncMaterialsValue) → AsksFor m saying now random w unasked materials
     → (is_some m ≡ true → (judged_now w).unlocked ≡ true) → is_some materials ≡ (judged_now w).unlocked
 unlocked_with (Some m) saying now random w unasked materials (same, un) before = ap is_some same ∙ sym (before refl)

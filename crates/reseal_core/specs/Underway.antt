@@ -130,6 +130,12 @@ ConcludesNewMessage v old new (Err (errors.Outside outsides.SinkFault)) = Conclu
     (Err reseals.SinkFault)
 ConcludesNewMessage v old new (Err error) = ⊥
 
+-- the same of what comes before its whole context is handed out
+abbrev pub EndsNewMessage : ResealingValue → SinkState → SinkState → Result (Unit {0}) InputError
+    → Type 0
+EndsNewMessage v old new (Ok done) = ConcludesSo v old new (Ok tt)
+EndsNewMessage v old new (Err error) = ConcludesNewMessage v old new (Err error)
+
 -- how a run ends whose session took all bytes that came
 abbrev pub ConcludesResealing : ResealingValue → SinkState → SinkState → End
     → Result (List KeyValue) InputError → Type 0
@@ -138,3 +144,9 @@ ConcludesResealing v old new ends.Failed (Err (errors.Outside outsides.SourceFau
 ConcludesResealing v old new ends.Failed result = ⊥
 ConcludesResealing v old new ends.TooLong (Err (errors.Outside outsides.InputTooLong)) = new ≡ old
 ConcludesResealing v old new ends.TooLong result = ⊥
+
+-- the same of what comes before the whole context is handed out
+abbrev pub EndsResealing : ResealingValue → SinkState → SinkState → End
+    → Result (Unit {0}) InputError → Type 0
+EndsResealing v old new end (Ok done) = (end ≡ ends.Seen) × ConcludesSo v old new (Ok tt)
+EndsResealing v old new end (Err error) = ConcludesResealing v old new end (Err error)

@@ -1,7 +1,7 @@
 //! An input that is resealed.
 
 ghost use Rattle.std.specs.Prelude.{◌≡◌, ◌≢◌, ◌+◌, ◌*◌, ◌≤◌, ◌^◌, ℕ, true, false};
-ghost use Rattle.std.specs.Prelude.{List, None, length, is_some, IfOk, IfErr};
+ghost use Rattle.std.specs.Prelude.{List, None, length, is_some, IfOk, IfErr, OnOk};
 ghost use Rattle.esdk_fields.specs.Counts.{Stayed};
 ghost use Rattle.context_codec.specs.Context.{KeyValue};
 ghost use Rattle.header_codec.specs.declared.settings.Settings.{Settings};
@@ -15,10 +15,11 @@ ghost use Rattle.reseal_core.specs.declared.errors.ResealError.TheVariants.{Stop
 ghost use Rattle.reseal_core.specs.Reseal.{ResealEndsSo, ResealEnds, ResealsInput, resealing_from};
 ghost use Rattle.reseal_core.specs.Reseal.{UnaskedUnlessUnlocked};
 ghost use Rattle.reseal_core.specs.Session.{ResealingValue, new_resealing_session};
+ghost use Rattle.reseal_core.specs.Session.{resealing_finished};
 ghost use Rattle.reseal_core.specs.Stands.{BearsAfter, Stands};
 ghost use Rattle.reseal_core.specs.Told.{resealing_told};
 ghost use Rattle.reseal_core.specs.Underway.{ResealerIsNew, ConcludesResealing};
-ghost use Rattle.reseal_core.specs.Underway.{ConcludesNewMessage, ResealErrorIsCalled};
+ghost use Rattle.reseal_core.specs.Underway.{EndsNewMessage, EndsResealing, ResealErrorIsCalled};
 ghost use Rattle.reseal_core.specs.Underway.{IsFedInput, IsUnstopped, UnfedAs};
 
 use crate::errors::{InputError, ResealError};
@@ -278,6 +279,24 @@ fn conclude<O: Sink>(resealer: Resealer, end: End, output: &mut O) -> Result<Con
     ensures { (v : ResealingValue) → Stands resealer v → v.stopped ≡ false
         → ConcludesResealing v (O.state output.old) (O.state output.new) end result }
 {
+    let mut resealer = resealer;
+    if let Err(error) = finish_at(&mut resealer, end, output) {
+        return Err(error);
+    }
+    match resealer.into_context() {
+        Some(context) => Ok(context),
+        None => unreachable!(),
+    }
+}
+
+/// Finishes the new message where all bytes came; else says why not all did.
+fn finish_at<O: Sink>(resealer: &mut Resealer, end: End, output: &mut O) -> Result<(), InputError>
+    requires { IsUnstopped resealer.old }
+    ensures ends { (v : ResealingValue) → Stands resealer.old v → v.stopped ≡ false
+        → EndsResealing v (O.state output.old) (O.state output.new) end result }
+    ensures stands { (v : ResealingValue) → Stands resealer.old v → v.stopped ≡ false
+        → OnOk result (Stands resealer.new (resealing_finished v)) }
+{
     match end {
         End::Seen => finish_whole(resealer, output),
         End::Failed => Err(InputError::Outside(Outside::SourceFault)),
@@ -285,18 +304,16 @@ fn conclude<O: Sink>(resealer: Resealer, end: End, output: &mut O) -> Result<Con
     }
 }
 
-/// Finishes the new message, and gives the whole context, where the old one is whole.
-fn finish_whole<O: Sink>(resealer: Resealer, output: &mut O) -> Result<Context, InputError>
-    requires { IsUnstopped resealer }
-    ensures { (v : ResealingValue) → Stands resealer v → v.stopped ≡ false
-        → ConcludesNewMessage v (O.state output.old) (O.state output.new) result }
+/// Finishes the new message, where the old one is whole.
+fn finish_whole<O: Sink>(resealer: &mut Resealer, output: &mut O) -> Result<(), InputError>
+    requires { IsUnstopped resealer.old }
+    ensures ends { (v : ResealingValue) → Stands resealer.old v → v.stopped ≡ false
+        → EndsNewMessage v (O.state output.old) (O.state output.new) result }
+    ensures stands { (v : ResealingValue) → Stands resealer.old v → v.stopped ≡ false
+        → OnOk result (Stands resealer.new (resealing_finished v)) }
 {
-    let mut resealer = resealer;
-    if let Err(error) = resealer.finish(output) {
-        return Err(named(error));
-    }
-    match resealer.into_context() {
-        Some(context) => Ok(context),
-        None => unreachable!(),
+    match resealer.finish(output) {
+        Ok(()) => Ok(()),
+        Err(error) => Err(named(error)),
     }
 }
