@@ -20,7 +20,7 @@ use Rattle.keyring_trait.specs.Saying.{Saying}
 use Rattle.esdk_batch.specs.Batch.{Draws}
 use Rattle.esdk_batch.specs.Underway.{JobHasSession, IsAt}
 use Rattle.esdk_batch.specs.Turns.{HasKind, Knows, answered_so_far, waits}
-use Rattle.esdk_batch.specs.Rounds.{AreAt, Beginning, HasOwn, HaveSessions, Stand, all_waits}
+use Rattle.esdk_batch.specs.Rounds.{AreAt, HasOwn, HaveSessions, Stand, all_waits}
 use Rattle.esdk_batch.proofs.Beside.{rest_waits}
 use Rattle.esdk_batch.proofs.Places.{drew_none}
 
@@ -57,9 +57,6 @@ sessions_wait jobs progress live wait = record {
   own = λ i j d apart first second. subst (λ one. HasOwn one (get_or progress j d)) (sym (wait i d first)) tt;
   order = λ i j d before below waits. wait j d below;
 }
-
-begun_at : Option Files → EntropyState → DeskValue → Beginning
-begun_at files entropy v = record { live = v.live; files = files; entropy = entropy; journal = v.journal; last = v.last }
 
 all_at : (manager : Saying) (jobs : List Job) (progress : List Progress) (now : Option Files) (live : ℕ → Option SessionValue) → AllWait progress
     → (files left : Files) → now ≡ Some files → now ≡ Some left → AreAt manager jobs files left (replicate (length progress) []) live progress

@@ -32,10 +32,3 @@ same_files None (Some now) name gains = absurd (let no : true ≡ false = gains.
 same_files (Some files) None name gains = absurd (let no : false ≡ true = gains.keeps.tells in cc)
 same_files (Some files) (Some now) name gains =
     ap (λ (f : Files). Some f) (same_map nat_list_cmp_total exact_bytes now files (λ q. same_at (Some files) (Some now) name q (bytes_eq q name) gains refl))
-
-pub gains_nothing : (old new : Option Files) (name bytes : List ℕ) → bytes ≡ [] → FileGains old new name bytes → new ≡ old
-gains_nothing old new name bytes none gains = same_files old new name (subst (λ (b : List ℕ). FileGains old new name b) none gains)
-
-pub no_bytes_both : (before more : List ℕ) → before ++ more ≡ [] → (before ≡ []) × (more ≡ [])
-no_bytes_both [] more e = (refl, e)
-no_bytes_both (x ∷ before) more e = absurd (let no : x ∷ (before ++ more) ≡ [] = e in cc)

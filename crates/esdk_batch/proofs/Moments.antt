@@ -5,20 +5,16 @@ use Rattle.std.specs.List.{flat_map}
 use Rattle.std.proofs.lemmas.Grind.{flat_map-append}
 use Rattle.std.proofs.lemmas.List.{map-append}
 use Rattle.std.proofs.lemmas.List.Elements.{All-append, All-cons, All-nil}
-use Rattle.esdk_base.specs.declared.receiver.FeedError.{FeedError}
 use Rattle.esdk_base.specs.Clock.{Moments, after_now}
 use Rattle.esdk_base.specs.Streams.{ClockState}
 use Rattle.keyring_trait.specs.declared.journal.JournalLine.{JournalLine}
 use Rattle.keyring_trait.specs.declared.journal.Kind.{Kind}
-use Rattle.keyring_trait.specs.declared.journal.Kind.TheVariants.{Seal, Unseal}
+use Rattle.keyring_trait.specs.declared.journal.Kind.TheVariants.{Seal}
 use Rattle.keyring_trait.specs.declared.served.Served.{Served}
-use Rattle.keyring_trait.specs.Manager.{ManagerNow}
 use Rattle.keyring_trait.specs.Saying.{Saying}
-use Rattle.stream_open.specs.Asking.{served_in}
 use Rattle.desk_core.specs.declared.errors.DeskError.{DeskError}
 use Rattle.desk_core.specs.declared.live_sessions.Desk.{Desk}
 use Rattle.desk_core.specs.Calls.{OpensSeal}
-use Rattle.desk_core.specs.Receiving.{FeedsInto}
 use Rattle.desk_core.specs.Desk.{DeskValue, lines_of, served_by}
 use Rattle.desk_core.specs.SealRequest.{SealRequestValue}
 use Rattle.desk_core.specs.Stands.{Stands, journal_of}
@@ -47,15 +43,6 @@ pub gains_same : (moment : ℕ) (before mid after : List JournalLine) → GainsA
 gains_same moment before mid after first same = subst (λ (l : List JournalLine). GainsAt moment before l) (sym same) first
 
 -- ---- the calls of the desk
-
-pub fed_gains : {M R E T : Type 0} (state : M → ManagerNow) (takes : R → R → List ℕ → Type 0) (fails : R → R → List ℕ → E → Type 0) (old new : Desk M) (v : DeskValue) (id now : ℕ) (piece : List ℕ) (before after : R)
-    (result : Result T (FeedError DeskError E)) → Stands old v → FeedsInto state takes fails v id now piece old new before after result → GainsAt now (journal_of old) (journal_of new)
-fed_gains state takes fails old new v id now piece before after result stands feeds = record {
-  gained = lines_of id Unseal now None (served_in feeds.heard);
-  journal = feeds.stands.journal ∙ ap (λ (l : List JournalLine). l ++ lines_of id Unseal now None (served_in feeds.heard)) (sym stands.journal);
-  bears = lines_bear id Unseal now None (served_in feeds.heard);
-  few = lines_few id Unseal now None (served_in feeds.heard);
-}
 
 pub sealed_gains : {M : Type 0} (manager : Saying) (old new : Desk M) (v : DeskValue) (request : SealRequestValue) (now : ℕ) (random : List ℕ) (result : Result ℕ DeskError) → Stands old v
     → OpensSeal manager v request now random result new → GainsAt now (journal_of old) (journal_of new)

@@ -9,7 +9,7 @@ use Rattle.std.proofs.lemmas.List.Elements.{All-append, All-cons, All-nil, All-w
 use Rattle.esdk_fields.specs.Counts.{Rose}
 use Rattle.esdk_seen.specs.Calls.{ForWhom, ShelfCall, announces, appends, creates, finishes, reads}
 use Rattle.esdk_base.specs.Streams.{ShelfState}
-use Rattle.esdk_base.specs.Told.{TellsAppend, TellsCall, TellsRead, whom}
+use Rattle.esdk_base.specs.Told.{TellsAppend, TellsCall, whom}
 use Rattle.keyring_trait.specs.declared.journal.Kind.{Kind}
 use Rattle.job_file.specs.declared.job.Job.{Job}
 use Rattle.job_file.specs.JobFile.{is_written}
@@ -34,10 +34,6 @@ use Rattle.esdk_batch.proofs.Standing.{apart_at}
 
 -- ---- the calls of a shelf
 
--- all stayed as it was
-pub calls_same : (P : ShelfCall → Type 0) (old new : ShelfState) → new ≡ old → HasCalls P old new
-calls_same P old new same = subst (HasCalls P old) (sym same) (calls_none P old)
-
 -- no call was told
 pub calls_still : (P : ShelfCall → Type 0) (old new : ShelfState) → new.calls ≡ old.calls → old.faults ≤ new.faults → HasCalls P old new
 calls_still P old new same later = record { made = []; calls = same ∙ sym (append-nil old.calls); all = All-nil P; later = later }
@@ -47,10 +43,6 @@ calls_one P old new call is told later = record { made = call ∷ []; calls = to
 
 abbrev pub calls_weaker : (P Q : ShelfCall → Type 0) (old new : ShelfState) → ((call : ShelfCall) → P call → Q call) → HasCalls P old new → HasCalls Q old new
 calls_weaker P Q old new weaker has = record { made = has.made; calls = has.calls; all = All-weaker P Q weaker has.made has.all; later = has.later }
-
-pub told_read : {E : Type 0} (old new : ShelfState) (result : Result ℕ E) (name : List ℕ) (at : ℕ) (out : List ℕ) → old.faults ≤ new.faults → TellsRead old.calls new.calls result name at out → HasCalls (IsReadOf name) old new
-told_read old new (Ok n) name at out later tells = calls_one (IsReadOf name) old new _ refl tells later
-told_read old new (Err failed) name at out later tells = calls_still (IsReadOf name) old new tells later
 
 pub told_call : {T E : Type 0} (P : ShelfCall → Type 0) (old new : ShelfState) (result : Result T E) (call : ShelfCall) → P call → old.faults ≤ new.faults → TellsCall old.calls new.calls result call → HasCalls P old new
 told_call P old new (Ok done) call is later tells = calls_one P old new call is tells later

@@ -6,6 +6,7 @@ ghost use Rattle.esdk_fields.specs.Counts.{Rose};
 ghost use Rattle.esdk_base.specs.Shelf.{is_missing};
 ghost use Rattle.esdk_base.specs.Streams.{EntropyState};
 ghost use Rattle.context_codec.specs.KeySet.{with_keys};
+ghost use Rattle.context_codec.specs.declared.insert.PairError.TheVariants.{Memory};
 ghost use Rattle.keyring_trait.specs.Requests.{required_absent};
 ghost use Rattle.job_file.specs.JobFile.{IsWork};
 ghost use Rattle.job_file.specs.declared.job.Job.{Job};
@@ -127,9 +128,18 @@ fn wish_of(
     let wish = EncRequest::new(alloc, context.copy(alloc)?, length);
     match wish.requiring(alloc, required) {
         Ok(wish) => Ok(wish),
-        Err(PairError::Memory) => Err(AllocError),
+        Err(error) => Err(memory_of(error)),
+    }
+}
+
+/// Why a request wasn't made whose required keys are all keys of its context: memory ran out.
+fn memory_of(error: PairError) -> AllocError
+    requires { error ≡ Memory }
+{
+    match error {
+        PairError::Memory => AllocError,
         // The keys that a job requires are keys of its context.
-        Err(PairError::Refusal(_)) => unreachable!(),
+        PairError::Refusal(_) => unreachable!(),
     }
 }
 
@@ -275,7 +285,7 @@ fn begin<M: Manager, F: Shelf>(
             served,
         }),
         Err(_) => {
-            let _dropped = desk.drop_session(session);
+            drop(desk.drop_session(session));
             ended_job(kind, JobEnd::Outside(Outside::ShelfFault), served)
         }
     }

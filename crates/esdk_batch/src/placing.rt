@@ -10,11 +10,21 @@ use esdk_base::{Readers, Shelf};
 use esdk_fields::Outside;
 use job_file::Job;
 use keyring_trait::Kind;
+use std::mem::replace;
+
+/// Puts in its place what a job wrote in a turn that came to this, where the job ended, and says how
+/// far the job is then.
+pub(crate) fn end_turn<F: Shelf>(job: &Job, next: Progress, progress: &mut Progress, shelf: &mut F)
+    ensures puts { PutsInPlace next progress.new (F.state shelf.old) (F.state shelf.new) }
+    ensures calls { FinishesBy job.now next progress.new (F.state shelf.old) (F.state shelf.new) }
+{
+    drop(replace(progress, put_in_place(job, next, shelf)));
+}
 
 /// Finishes the file that a job wrote, where the job ended: a message for anyone, the content of
 /// one for its owner alone. A job that was done is a failure of the shelf where that fails; another
 /// one ended before, and stays as it ended.
-pub(crate) fn put_in_place<F: Shelf>(job: &Job, next: Progress, shelf: &mut F) -> Progress
+fn put_in_place<F: Shelf>(job: &Job, next: Progress, shelf: &mut F) -> Progress
     ensures puts { PutsInPlace next result (F.state shelf.old) (F.state shelf.new) }
     ensures calls { FinishesBy job.now next result (F.state shelf.old) (F.state shelf.new) }
 {

@@ -25,7 +25,7 @@ ghost use Rattle.esdk_batch.specs.declared.progress.Progress.TheVariants as stag
 use crate::feeding::{end_session, feed_piece};
 use crate::files::read_piece;
 use crate::opening::{open_job, served_since};
-use crate::placing::put_in_place;
+use crate::placing::end_turn;
 use crate::progress::{Live, Progress, ended_job, kind_of};
 use batch_report::JobEnd;
 use desk_core::Desk;
@@ -96,12 +96,12 @@ pub(crate) fn take_turn<M: Manager, F: Shelf, W: Entropy, C: Clock>(
     match progress {
         Progress::Waiting => {
             let next = open_job(alloc, job, clock.now(), desk, shelf, entropy)?;
-            *progress = put_in_place(job, next, shelf);
+            end_turn(job, next, progress, shelf);
             Ok(())
         }
         Progress::Live(live) => {
             let next = go_on(alloc, job, *live, clock.now(), buffer, desk, shelf)?;
-            *progress = put_in_place(job, next, shelf);
+            end_turn(job, next, progress, shelf);
             Ok(())
         }
         Progress::Ended(_) => Ok(()),
@@ -157,7 +157,7 @@ fn go_on<M: Manager, F: Shelf>(
     let count = match read_piece(shelf, job.from.as_str(), live.at, buffer) {
         Ok(count) => count,
         Err(outside) => {
-            let _dropped = desk.drop_session(session);
+            drop(desk.drop_session(session));
             return Ok(ended_job(kind, JobEnd::Outside(outside), live.served));
         }
     };

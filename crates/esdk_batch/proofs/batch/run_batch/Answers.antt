@@ -2,7 +2,7 @@
 use Rattle.std.proofs.Common.{◌≡◌, ◌≤◌, length, arith, ap, inr, refl, sym, subst, ◌∙◌}
 use Rattle.std.specs.Prelude.{All}
 use Rattle.std.proofs.lemmas.List.{with_items_is}
-use Rattle.std.proofs.lemmas.Result.{IfOk-weaker}
+use Rattle.std.proofs.lemmas.Result.{IfOk-from_err, IfOk-weaker}
 use Rattle.desk_core.specs.Stands.{last_of, manager_of}
 use Rattle.esdk_batch.specs.declared.progress.Progress.TheVariants.{Waiting}
 use Rattle.esdk_batch.specs.Rounds.{Beginning, all_waits}
@@ -16,6 +16,7 @@ use Rattle.esdk_batch.proofs.Beside.{rest_ended}
 use Rattle.esdk_batch.proofs.Conclusion.{batch_ends_at, begun_as, counted_as, on_ok, shown_batch}
 use Rattle.esdk_batch.proofs.Keeping.{beyond_waiting, keeps_drawn_before}
 use Rattle.esdk_batch.proofs.Managers.{admits_between}
+use Rattle.esdk_batch.proofs.Moments.{reads_none}
 use Rattle.esdk_batch.proofs.ShelfCalls.{jobs_at_most, jobs_finished, jobs_none, most_never, most_since}
 use Rattle.esdk_batch.proofs.batch.run_batch.Goals as goal
 
@@ -232,3 +233,127 @@ returns-in_err-progress-clause-others g c = told_only c.args.jobs.now.jobs _ _ _
 
 pub returns-in_err-progress-clause-told : goal.returns-in_err-progress-clause-told
 returns-in_err-progress-clause-told g c = still_told _ _ _ c.in_ok-announce.ensures.all
+
+-- ---- where memory ran out
+
+pub returns-in_err-announce-clause-runs : goal.returns-in_err-announce-clause-runs
+returns-in_err-announce-clause-runs g c = λ v stands. IfOk-from_err c.from_residual.result _ c.from_residual.ensures.0
+
+pub returns-in_err-announce-clause-shown : goal.returns-in_err-announce-clause-shown
+returns-in_err-announce-clause-shown g c = λ before v stands. IfOk-from_err c.from_residual.result _ c.from_residual.ensures.0
+
+pub returns-in_err-announce-clause-sessions : goal.returns-in_err-announce-clause-sessions
+returns-in_err-announce-clause-sessions g c = λ v stands. IfOk-from_err c.from_residual.result _ c.from_residual.ensures.0
+
+pub returns-in_err-announce-clause-finished : goal.returns-in_err-announce-clause-finished
+returns-in_err-announce-clause-finished g c = IfOk-from_err c.from_residual.result _ c.from_residual.ensures.0
+
+pub returns-in_err-announce-clause-failures : goal.returns-in_err-announce-clause-failures
+returns-in_err-announce-clause-failures g c = IfOk-from_err c.from_residual.result _ c.from_residual.ensures.0
+
+pub returns-in_err-announce-clause-moments : goal.returns-in_err-announce-clause-moments
+returns-in_err-announce-clause-moments g c = reads_none _ _ _ _ refl refl
+
+pub returns-in_err-announce-clause-worth : goal.returns-in_err-announce-clause-worth
+returns-in_err-announce-clause-worth g c = c.requires.worth
+
+pub returns-in_err-announce-clause-went : goal.returns-in_err-announce-clause-went
+returns-in_err-announce-clause-went g c = c.draws-draws.ensures.went
+
+pub returns-in_err-announce-clause-bears : goal.returns-in_err-announce-clause-bears
+returns-in_err-announce-clause-bears g c = λ bears. bears
+
+pub returns-in_err-buffer-clause-runs : goal.returns-in_err-buffer-clause-runs
+returns-in_err-buffer-clause-runs g c = λ v stands. IfOk-from_err c.from_residual-in_err-buffer.result _ c.from_residual-in_err-buffer.ensures.0
+
+pub returns-in_err-buffer-clause-shown : goal.returns-in_err-buffer-clause-shown
+returns-in_err-buffer-clause-shown g c = λ before v stands. IfOk-from_err c.from_residual-in_err-buffer.result _ c.from_residual-in_err-buffer.ensures.0
+
+pub returns-in_err-buffer-clause-sessions : goal.returns-in_err-buffer-clause-sessions
+returns-in_err-buffer-clause-sessions g c = λ v stands. IfOk-from_err c.from_residual-in_err-buffer.result _ c.from_residual-in_err-buffer.ensures.0
+
+pub returns-in_err-buffer-clause-finished : goal.returns-in_err-buffer-clause-finished
+returns-in_err-buffer-clause-finished g c = IfOk-from_err c.from_residual-in_err-buffer.result _ c.from_residual-in_err-buffer.ensures.0
+
+pub returns-in_err-buffer-clause-failures : goal.returns-in_err-buffer-clause-failures
+returns-in_err-buffer-clause-failures g c = IfOk-from_err c.from_residual-in_err-buffer.result _ c.from_residual-in_err-buffer.ensures.0
+
+pub returns-in_err-buffer-clause-moments : goal.returns-in_err-buffer-clause-moments
+returns-in_err-buffer-clause-moments g c = reads_none _ _ _ _ refl refl
+
+pub returns-in_err-buffer-clause-worth : goal.returns-in_err-buffer-clause-worth
+returns-in_err-buffer-clause-worth g c = c.requires.worth
+
+pub returns-in_err-buffer-clause-went : goal.returns-in_err-buffer-clause-went
+returns-in_err-buffer-clause-went g c = c.draws-draws.ensures.went
+
+pub returns-in_err-buffer-clause-bears : goal.returns-in_err-buffer-clause-bears
+returns-in_err-buffer-clause-bears g c = λ bears. bears
+
+pub returns-in_err-progress-clause-runs : goal.returns-in_err-progress-clause-runs
+returns-in_err-progress-clause-runs g c = λ v stands. IfOk-from_err c.from_residual-in_err-progress.result _ c.from_residual-in_err-progress.ensures.0
+
+pub returns-in_err-progress-clause-shown : goal.returns-in_err-progress-clause-shown
+returns-in_err-progress-clause-shown g c = λ before v stands. IfOk-from_err c.from_residual-in_err-progress.result _ c.from_residual-in_err-progress.ensures.0
+
+pub returns-in_err-progress-clause-sessions : goal.returns-in_err-progress-clause-sessions
+returns-in_err-progress-clause-sessions g c = λ v stands. IfOk-from_err c.from_residual-in_err-progress.result _ c.from_residual-in_err-progress.ensures.0
+
+pub returns-in_err-progress-clause-finished : goal.returns-in_err-progress-clause-finished
+returns-in_err-progress-clause-finished g c = IfOk-from_err c.from_residual-in_err-progress.result _ c.from_residual-in_err-progress.ensures.0
+
+pub returns-in_err-progress-clause-failures : goal.returns-in_err-progress-clause-failures
+returns-in_err-progress-clause-failures g c = IfOk-from_err c.from_residual-in_err-progress.result _ c.from_residual-in_err-progress.ensures.0
+
+pub returns-in_err-progress-clause-moments : goal.returns-in_err-progress-clause-moments
+returns-in_err-progress-clause-moments g c = reads_none _ _ _ _ refl refl
+
+pub returns-in_err-progress-clause-worth : goal.returns-in_err-progress-clause-worth
+returns-in_err-progress-clause-worth g c = c.requires.worth
+
+pub returns-in_err-progress-clause-went : goal.returns-in_err-progress-clause-went
+returns-in_err-progress-clause-went g c = c.draws-draws.ensures.went
+
+pub returns-in_err-progress-clause-bears : goal.returns-in_err-progress-clause-bears
+returns-in_err-progress-clause-bears g c = λ bears. bears
+
+pub returns-in_err-run_rounds-clause-runs : goal.returns-in_err-run_rounds-clause-runs
+returns-in_err-run_rounds-clause-runs g c = λ v stands. IfOk-from_err c.from_residual-in_err-run_rounds.result _ c.from_residual-in_err-run_rounds.ensures.0
+
+pub returns-in_err-run_rounds-clause-shown : goal.returns-in_err-run_rounds-clause-shown
+returns-in_err-run_rounds-clause-shown g c = λ before v stands. IfOk-from_err c.from_residual-in_err-run_rounds.result _ c.from_residual-in_err-run_rounds.ensures.0
+
+pub returns-in_err-run_rounds-clause-sessions : goal.returns-in_err-run_rounds-clause-sessions
+returns-in_err-run_rounds-clause-sessions g c = λ v stands. IfOk-from_err c.from_residual-in_err-run_rounds.result _ c.from_residual-in_err-run_rounds.ensures.0
+
+pub returns-in_err-run_rounds-clause-finished : goal.returns-in_err-run_rounds-clause-finished
+returns-in_err-run_rounds-clause-finished g c = IfOk-from_err c.from_residual-in_err-run_rounds.result _ c.from_residual-in_err-run_rounds.ensures.0
+
+pub returns-in_err-run_rounds-clause-failures : goal.returns-in_err-run_rounds-clause-failures
+returns-in_err-run_rounds-clause-failures g c = IfOk-from_err c.from_residual-in_err-run_rounds.result _ c.from_residual-in_err-run_rounds.ensures.0
+
+-- ---- the moments, and the manager
+
+pub returns-in_err-run_rounds-clause-moments : goal.returns-in_err-run_rounds-clause-moments
+returns-in_err-run_rounds-clause-moments g c = c.run_rounds.ensures.moments
+
+pub returns-in_err-run_rounds-clause-worth : goal.returns-in_err-run_rounds-clause-worth
+returns-in_err-run_rounds-clause-worth g c = c.run_rounds.ensures.worth
+
+pub returns-in_err-run_rounds-clause-went : goal.returns-in_err-run_rounds-clause-went
+returns-in_err-run_rounds-clause-went g c = c.run_rounds.ensures.went.went
+
+pub returns-in_err-run_rounds-clause-bears : goal.returns-in_err-run_rounds-clause-bears
+returns-in_err-run_rounds-clause-bears g c = c.run_rounds.ensures.went.bears
+
+pub returns-clause-moments : goal.returns-clause-moments
+returns-clause-moments g c = c.run_rounds.ensures.moments
+
+pub returns-clause-worth : goal.returns-clause-worth
+returns-clause-worth g c = c.run_rounds.ensures.worth
+
+pub returns-clause-went : goal.returns-clause-went
+returns-clause-went g c = c.run_rounds.ensures.went.went
+
+pub returns-clause-bears : goal.returns-clause-bears
+returns-clause-bears g c = c.run_rounds.ensures.went.bears

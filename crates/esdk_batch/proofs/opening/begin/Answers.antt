@@ -17,7 +17,7 @@ returns-in-Ok-clause-begins g c = λ by v s from stands live.
 pub returns-in-Err-clause-begins : goal.returns-in-Err-clause-begins
 returns-in-Err-clause-begins g c = λ by v s from stands live. (
   after_desk_call v c.args.session false DropSession,
-  c.drop_session-dropped.ensures.stands v stands,
+  c.drop_session.ensures.stands v stands,
   file_failed c.args.session c.args.kind c.args.served s v _ _ c.args.to.now _ c.ended_job.ensures live (c.in-Err.ensures.makes by v s from stands live),
 )
 
@@ -38,4 +38,4 @@ returns-in-Ok-clause-sessions g c = λ last beyond. keeps_same last 0 c.args.des
 
 pub returns-in-Err-clause-sessions : goal.returns-in-Err-clause-sessions
 returns-in-Err-clause-sessions g c = λ last beyond.
-    keeps_dropped last c.args.session c.args.desk.now c.drop_session-dropped.new.self (c.requires.0, c.requires.1) c.drop_session-dropped.ensures.stands beyond
+    keeps_dropped last c.args.session c.args.desk.now c.drop_session.new.self (c.requires.0, c.requires.1) c.drop_session.ensures.stands beyond

@@ -1,6 +1,7 @@
 -- The file is made, and the header is put behind it.
 use Rattle.std.proofs.Common.{◌≡◌, ◌∙◌, ℕ, List, sym, ap, subst}
 use Rattle.std.specs.Prelude.{Option, Some, OnErr, option_map}
+use Rattle.std.proofs.lemmas.Result.{IfOk-from_err}
 use Rattle.esdk_fields.specs.Counts.{Rose}
 use Rattle.desk_core.specs.Session.{SessionValue, sealed_header}
 use Rattle.esdk_batch.specs.FileEndLaws.{calls_more, from_later}
@@ -8,6 +9,7 @@ use Rattle.esdk_batch.specs.Files.{MakesFile}
 use Rattle.esdk_batch.specs.ShelfCalls.{IsWrite}
 use Rattle.esdk_batch.specs.Watching.{as_told, files_by}
 use Rattle.esdk_batch.proofs.Counting.{emptied_there}
+use Rattle.esdk_batch.proofs.ShelfCalls.{on_err}
 use Rattle.esdk_batch.proofs.Watched.{file_made, put_there}
 use Rattle.esdk_batch.proofs.opening.make_file.Goals as goal
 
@@ -32,3 +34,17 @@ returns-clause-cause g c =
 
 pub returns-clause-there : goal.returns-clause-there
 returns-clause-there g c = put_there _ _ c.args.to.now c.in-Ok.header.now c.put.result (c.put.ensures.puts as_told tt) (emptied_there _ _ c.args.to.now (c.in_ok-make.ensures.makes as_told tt))
+
+-- ---- the file wasn't made
+
+pub returns-in_err-make-clause-kept : goal.returns-in_err-make-clause-kept
+returns-in_err-make-clause-kept g c = c.make.ensures.kept
+
+pub returns-in_err-make-clause-calls : goal.returns-in_err-make-clause-calls
+returns-in_err-make-clause-calls g c = c.make.ensures.calls
+
+pub returns-in_err-make-clause-cause : goal.returns-in_err-make-clause-cause
+returns-in_err-make-clause-cause g c = on_err c.from_residual.result c.in_err-make.ensures.cause.failed
+
+pub returns-in_err-make-clause-there : goal.returns-in_err-make-clause-there
+returns-in_err-make-clause-there g c = IfOk-from_err c.from_residual.result _ c.from_residual.ensures.0

@@ -1,12 +1,15 @@
 -- A job's first turn is that of its work.
 use Rattle.std.proofs.Common.{ℕ, List, ap, arith, refl, sym, subst}
-use Rattle.std.proofs.lemmas.Result.{IfOk-weaker}
+use Rattle.std.proofs.lemmas.Result.{IfOk-from_err, IfOk-weaker, on_ok_weaker}
 use Rattle.desk_core.specs.Stands.{manager_of}
 use Rattle.job_file.specs.JobFile.{IsWork}
 use Rattle.job_file.specs.declared.job.Work.{Work}
+use Rattle.esdk_batch.specs.Batch.{kind_of}
 use Rattle.esdk_batch.specs.FileEndLaws.{calls_none}
 use Rattle.esdk_batch.specs.SealStory.{SealAsked}
 use Rattle.esdk_batch.specs.ShelfCalls.{HasCalls, IsWrite}
+use Rattle.esdk_batch.proofs.Keeping.{keeps_same}
+use Rattle.esdk_batch.proofs.Moments.{gains_none}
 use Rattle.esdk_batch.proofs.TurnCounting.{counts_from}
 use Rattle.esdk_batch.proofs.Wishes.{asks_as, none_absent}
 use Rattle.esdk_batch.proofs.opening.open_job.Goals as goal
@@ -55,3 +58,81 @@ returns-in_ok-wish-in-Encrypt-clause-calls g c = subst (λ (n : List ℕ). HasCa
 
 pub returns-in-Decrypt-clause-calls : goal.returns-in-Decrypt-clause-calls
 returns-in-Decrypt-clause-calls g c = subst (λ (n : List ℕ). HasCalls (IsWrite n) (g.F.Shelf.state c.args.shelf.now) (g.F.Shelf.state c.open_opening.new.shelf)) c.as_str-to.ensures.text c.open_opening.ensures.calls
+
+-- ---- the file, and the moment
+
+pub returns-in_ok-wish-in-Encrypt-clause-kept : goal.returns-in_ok-wish-in-Encrypt-clause-kept
+returns-in_ok-wish-in-Encrypt-clause-kept g c = rw c.as_str-to.ensures.text at c.open_sealing.ensures.kept
+
+pub returns-in_ok-wish-in-Encrypt-clause-moment : goal.returns-in_ok-wish-in-Encrypt-clause-moment
+returns-in_ok-wish-in-Encrypt-clause-moment g c = c.open_sealing.ensures.moment
+
+pub returns-in-Decrypt-clause-kept : goal.returns-in-Decrypt-clause-kept
+returns-in-Decrypt-clause-kept g c = rw c.as_str-to.ensures.text at c.open_opening.ensures.kept
+
+pub returns-in-Decrypt-clause-moment : goal.returns-in-Decrypt-clause-moment
+returns-in-Decrypt-clause-moment g c = gains_none c.args.now _ _ c.open_opening.ensures.journal
+
+-- ---- the session, and what is drawn
+
+pub returns-in_ok-wish-in-Encrypt-clause-numbers : goal.returns-in_ok-wish-in-Encrypt-clause-numbers
+returns-in_ok-wish-in-Encrypt-clause-numbers g c = c.open_sealing.ensures.numbers
+
+pub returns-in_ok-wish-in-Encrypt-clause-sessions : goal.returns-in_ok-wish-in-Encrypt-clause-sessions
+returns-in_ok-wish-in-Encrypt-clause-sessions g c = c.open_sealing.ensures.sessions
+
+pub returns-in_ok-wish-in-Encrypt-clause-draws : goal.returns-in_ok-wish-in-Encrypt-clause-draws
+returns-in_ok-wish-in-Encrypt-clause-draws g c = c.open_sealing.ensures.draws
+
+pub returns-in_ok-wish-in-Encrypt-clause-kind : goal.returns-in_ok-wish-in-Encrypt-clause-kind
+returns-in_ok-wish-in-Encrypt-clause-kind g c = c.open_sealing.ensures.kind c.args.job.now.work (sym (ap kind_of c.in-Encrypt.is))
+
+pub returns-in_ok-wish-in-Encrypt-clause-front : goal.returns-in_ok-wish-in-Encrypt-clause-front
+returns-in_ok-wish-in-Encrypt-clause-front g c = c.open_sealing.ensures.front
+
+pub returns-in_ok-wish-in-Encrypt-clause-went : goal.returns-in_ok-wish-in-Encrypt-clause-went
+returns-in_ok-wish-in-Encrypt-clause-went g c = c.open_sealing.ensures.went
+
+pub returns-in-Decrypt-clause-numbers : goal.returns-in-Decrypt-clause-numbers
+returns-in-Decrypt-clause-numbers g c = c.open_opening.ensures.numbers
+
+pub returns-in-Decrypt-clause-sessions : goal.returns-in-Decrypt-clause-sessions
+returns-in-Decrypt-clause-sessions g c = c.open_opening.ensures.sessions
+
+pub returns-in-Decrypt-clause-draws : goal.returns-in-Decrypt-clause-draws
+returns-in-Decrypt-clause-draws g c = on_ok_weaker c.open_opening.result (λ last. (omega arith, λ stayed. last)) c.open_opening.ensures.last
+
+pub returns-in-Decrypt-clause-kind : goal.returns-in-Decrypt-clause-kind
+returns-in-Decrypt-clause-kind g c = c.open_opening.ensures.kind c.args.job.now.work (sym (ap kind_of c.in-Decrypt.is))
+
+pub returns-in-Decrypt-clause-front : goal.returns-in-Decrypt-clause-front
+returns-in-Decrypt-clause-front g c = c.open_opening.ensures.front
+
+-- ---- where memory ran out
+
+pub returns-in_err-wish-in-Encrypt-clause-turn : goal.returns-in_err-wish-in-Encrypt-clause-turn
+returns-in_err-wish-in-Encrypt-clause-turn g c = λ by first last v from admits stands. IfOk-from_err c.from_residual.result _ c.from_residual.ensures.0
+
+pub returns-in_err-wish-in-Encrypt-clause-numbers : goal.returns-in_err-wish-in-Encrypt-clause-numbers
+returns-in_err-wish-in-Encrypt-clause-numbers g c = IfOk-from_err c.from_residual.result _ c.from_residual.ensures.0
+
+pub returns-in_err-wish-in-Encrypt-clause-draws : goal.returns-in_err-wish-in-Encrypt-clause-draws
+returns-in_err-wish-in-Encrypt-clause-draws g c = IfOk-from_err c.from_residual.result _ c.from_residual.ensures.0
+
+pub returns-in_err-wish-in-Encrypt-clause-lines : goal.returns-in_err-wish-in-Encrypt-clause-lines
+returns-in_err-wish-in-Encrypt-clause-lines g c = λ v stands. IfOk-from_err c.from_residual.result _ c.from_residual.ensures.0
+
+pub returns-in_err-wish-in-Encrypt-clause-kind : goal.returns-in_err-wish-in-Encrypt-clause-kind
+returns-in_err-wish-in-Encrypt-clause-kind g c = IfOk-from_err c.from_residual.result _ c.from_residual.ensures.0
+
+pub returns-in_err-wish-in-Encrypt-clause-front : goal.returns-in_err-wish-in-Encrypt-clause-front
+returns-in_err-wish-in-Encrypt-clause-front g c = IfOk-from_err c.from_residual.result _ c.from_residual.ensures.0
+
+pub returns-in_err-wish-in-Encrypt-clause-counts : goal.returns-in_err-wish-in-Encrypt-clause-counts
+returns-in_err-wish-in-Encrypt-clause-counts g c = IfOk-from_err c.from_residual.result _ c.from_residual.ensures.0
+
+pub returns-in_err-wish-in-Encrypt-clause-sessions : goal.returns-in_err-wish-in-Encrypt-clause-sessions
+returns-in_err-wish-in-Encrypt-clause-sessions g c = λ last under. keeps_same last 1 c.args.desk.now
+
+pub returns-in_err-wish-in-Encrypt-clause-moment : goal.returns-in_err-wish-in-Encrypt-clause-moment
+returns-in_err-wish-in-Encrypt-clause-moment g c = gains_none c.args.now _ _ refl

@@ -1,5 +1,6 @@
 -- The session that was opened is live, and no error says that it isn't.
 use Rattle.std.proofs.Common.{◌+◌, ℕ, [], None, Ok, refl, arith}
+use Rattle.std.proofs.lemmas.Result.{IfOk-from_err}
 use Rattle.keyring_trait.specs.declared.journal.Kind.TheVariants.{Unseal}
 use Rattle.desk_core.specs.Session.{Opening, Turn, open_opened}
 use Rattle.desk_core.specs.Desk.{DeskValue, after_turn, drawn}
@@ -9,7 +10,7 @@ use Rattle.esdk_batch.specs.Watching.{as_told}
 use Rattle.esdk_batch.proofs.Counting.{rose_zero}
 use Rattle.esdk_batch.proofs.Faulting.{open_soundly, sound_end}
 use Rattle.esdk_batch.proofs.FirstLines.{number_drawn, open_begun_adds}
-use Rattle.esdk_batch.proofs.FirstTurns.{draws_next, draws_on}
+use Rattle.esdk_batch.proofs.FirstTurns.{draws_next, draws_on, keeps_all}
 use Rattle.esdk_batch.proofs.Keeping.{keeps_drawn, keeps_on, keeps_same}
 use Rattle.esdk_batch.proofs.OpenBegins.{has_begun, open_begins_at, opening_live, opening_of}
 use Rattle.esdk_batch.proofs.Openings.{live_after, open_error_lives, open_lives}
@@ -115,3 +116,88 @@ returns-in_ok-end_of-in-Err-clause-calls g c = calls_none (IsWrite c.args.to.now
 
 pub returns-in_err-end_of-in-Err-clause-calls : goal.returns-in_err-end_of-in-Err-clause-calls
 returns-in_err-end_of-in-Err-clause-calls g c = calls_none (IsWrite c.args.to.now) _
+
+-- ---- what making the file keeps
+
+pub returns-in-Ok-clause-kind : goal.returns-in-Ok-clause-kind
+returns-in-Ok-clause-kind g c = c.begin.ensures.kind
+
+pub returns-in-Ok-clause-kept : goal.returns-in-Ok-clause-kept
+returns-in-Ok-clause-kept g c = c.begin.ensures.kept
+
+pub returns-in-Ok-clause-calls : goal.returns-in-Ok-clause-calls
+returns-in-Ok-clause-calls g c = c.begin.ensures.calls
+
+pub returns-in-Ok-clause-front : goal.returns-in-Ok-clause-front
+returns-in-Ok-clause-front g c = c.begin.ensures.front
+
+pub returns-in-Ok-clause-worth : goal.returns-in-Ok-clause-worth
+returns-in-Ok-clause-worth g c = c.begin.ensures.worth
+
+-- ---- the file stays
+
+pub returns-in_ok-end_of-in-Err-clause-kept : goal.returns-in_ok-end_of-in-Err-clause-kept
+returns-in_ok-end_of-in-Err-clause-kept g c = keeps_all _ _
+
+-- ---- memory ran out
+
+pub returns-in_err-copy-clause-turn : goal.returns-in_err-copy-clause-turn
+returns-in_err-copy-clause-turn g c = λ by first last job required v entropy from work to stands. IfOk-from_err c.from_residual.result _ c.from_residual.ensures.0
+
+pub returns-in_err-copy-clause-numbers : goal.returns-in_err-copy-clause-numbers
+returns-in_err-copy-clause-numbers g c = IfOk-from_err c.from_residual.result _ c.from_residual.ensures.0
+
+pub returns-in_err-copy-clause-last : goal.returns-in_err-copy-clause-last
+returns-in_err-copy-clause-last g c = IfOk-from_err c.from_residual.result _ c.from_residual.ensures.0
+
+pub returns-in_err-copy-clause-lines : goal.returns-in_err-copy-clause-lines
+returns-in_err-copy-clause-lines g c = λ job required v work stands. IfOk-from_err c.from_residual.result _ c.from_residual.ensures.0
+
+pub returns-in_err-copy-clause-kind : goal.returns-in_err-copy-clause-kind
+returns-in_err-copy-clause-kind g c = λ work is. IfOk-from_err c.from_residual.result _ c.from_residual.ensures.0
+
+pub returns-in_err-copy-clause-front : goal.returns-in_err-copy-clause-front
+returns-in_err-copy-clause-front g c = IfOk-from_err c.from_residual.result _ c.from_residual.ensures.0
+
+pub returns-in_err-copy-clause-counts : goal.returns-in_err-copy-clause-counts
+returns-in_err-copy-clause-counts g c = λ job entropy keyring to. IfOk-from_err c.from_residual.result _ c.from_residual.ensures.0
+
+pub returns-in_err-copy-clause-kept : goal.returns-in_err-copy-clause-kept
+returns-in_err-copy-clause-kept g c = keeps_all _ _
+
+-- ---- it ran out behind that
+
+pub returns-in_err-end_of-in-Err-clause-turn : goal.returns-in_err-end_of-in-Err-clause-turn
+returns-in_err-end_of-in-Err-clause-turn g c = λ by first last job required v entropy from work to stands. IfOk-from_err c.from_residual-in_err-end_of-in-Err.result _ c.from_residual-in_err-end_of-in-Err.ensures.0
+
+pub returns-in_err-end_of-in-Err-clause-numbers : goal.returns-in_err-end_of-in-Err-clause-numbers
+returns-in_err-end_of-in-Err-clause-numbers g c = IfOk-from_err c.from_residual-in_err-end_of-in-Err.result _ c.from_residual-in_err-end_of-in-Err.ensures.0
+
+pub returns-in_err-end_of-in-Err-clause-last : goal.returns-in_err-end_of-in-Err-clause-last
+returns-in_err-end_of-in-Err-clause-last g c = IfOk-from_err c.from_residual-in_err-end_of-in-Err.result _ c.from_residual-in_err-end_of-in-Err.ensures.0
+
+pub returns-in_err-end_of-in-Err-clause-lines : goal.returns-in_err-end_of-in-Err-clause-lines
+returns-in_err-end_of-in-Err-clause-lines g c = λ job required v work stands. IfOk-from_err c.from_residual-in_err-end_of-in-Err.result _ c.from_residual-in_err-end_of-in-Err.ensures.0
+
+pub returns-in_err-end_of-in-Err-clause-kind : goal.returns-in_err-end_of-in-Err-clause-kind
+returns-in_err-end_of-in-Err-clause-kind g c = λ work is. IfOk-from_err c.from_residual-in_err-end_of-in-Err.result _ c.from_residual-in_err-end_of-in-Err.ensures.0
+
+pub returns-in_err-end_of-in-Err-clause-front : goal.returns-in_err-end_of-in-Err-clause-front
+returns-in_err-end_of-in-Err-clause-front g c = IfOk-from_err c.from_residual-in_err-end_of-in-Err.result _ c.from_residual-in_err-end_of-in-Err.ensures.0
+
+pub returns-in_err-end_of-in-Err-clause-counts : goal.returns-in_err-end_of-in-Err-clause-counts
+returns-in_err-end_of-in-Err-clause-counts g c = λ job entropy keyring to. IfOk-from_err c.from_residual-in_err-end_of-in-Err.result _ c.from_residual-in_err-end_of-in-Err.ensures.0
+
+pub returns-in_err-end_of-in-Err-clause-kept : goal.returns-in_err-end_of-in-Err-clause-kept
+returns-in_err-end_of-in-Err-clause-kept g c = keeps_all _ _
+
+-- ---- nothing was begun
+
+pub returns-in_err-copy-clause-worth : goal.returns-in_err-copy-clause-worth
+returns-in_err-copy-clause-worth g c = c.requires.worth
+
+pub returns-in_err-copy-clause-manager : goal.returns-in_err-copy-clause-manager
+returns-in_err-copy-clause-manager g c = refl
+
+pub returns-in_err-copy-clause-journal : goal.returns-in_err-copy-clause-journal
+returns-in_err-copy-clause-journal g c = refl

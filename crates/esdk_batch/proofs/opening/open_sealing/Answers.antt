@@ -1,6 +1,7 @@
 -- What the first turn of an encrypt job comes to, by what the entropy, the desk and the shelf answered.
 use Rattle.std.proofs.Common.{rules, ◌≡◌, ◌∙◌, ◌+◌, ◌*◌, ℕ, List, None, length, refl, ap, arith}
 use Rattle.std.proofs.lemmas.Map.{update_here}
+use Rattle.std.proofs.lemmas.Result.{IfOk-from_err}
 use Rattle.esdk_fields.specs.declared.refusals.Outside.TheVariants as outsides
 use Rattle.keyring_trait.specs.declared.journal.JournalLine.{JournalLine}
 use Rattle.keyring_trait.specs.declared.journal.Kind.TheVariants.{Seal}
@@ -9,6 +10,7 @@ use Rattle.desk_core.specs.Desk.{DeskValue, after_turn, drawn, lines_of, seal_li
 use Rattle.desk_core.specs.Stands.{manager_of}
 use Rattle.batch_report.specs.declared.job_lines.JobEnd.TheVariants as ends
 use Rattle.keyring_trait.specs.Saying.{Saying}
+use Rattle.esdk_batch.specs.Failures.{tally_of}
 use Rattle.esdk_batch.specs.FileEndLaws.{calls_none}
 use Rattle.esdk_batch.specs.Opening.{job_request}
 use Rattle.esdk_batch.specs.ShelfCalls.{IsWrite}
@@ -16,7 +18,7 @@ use Rattle.esdk_batch.specs.Watching.{as_told}
 use Rattle.esdk_batch.proofs.Counting.{rose_none, rose_zero}
 use Rattle.esdk_batch.proofs.Faulting.{entropy_sound, keyring_counted, seal_rose, shelf_sound}
 use Rattle.esdk_batch.proofs.FirstLines.{number_drawn, seal_begun_adds, seal_ended_adds}
-use Rattle.esdk_batch.proofs.FirstTurns.{draws_next, draws_on}
+use Rattle.esdk_batch.proofs.FirstTurns.{draws_next, draws_on, keeps_all}
 use Rattle.esdk_batch.proofs.Keeping.{keeps_drawn, keeps_on, keeps_same}
 use Rattle.esdk_batch.proofs.Managers.{said, says_same}
 use Rattle.esdk_batch.proofs.Moments.{gains_none, gains_same, sealed_gains}
@@ -176,7 +178,9 @@ returns-in_ok-end_of-in-Err-clause-counts g c = λ job to.
     let old = manager_of c.args.desk.now in
     let new = manager_of c.open_seal-opened.new.self in
     let rose = seal_rose (g.M.Manager.state old) (g.M.Manager.state new) c.args.now c.requires.worth.0 c.args.request.now c.fill.new.out c.in-Err.error c.open_seal-opened.new.self (opened.opens c.requires.worth.0 c.requires.worth.1) in
-    ended_counts job c.ended_job-in-Err.result _ _ (record { kind = Seal; end = end; served = c.served_since-served.result }) c.ended_job-in-Err.ensures
+    ended_counts job c.ended_job-in-Err.result
+    (tally_of (g.F.Shelf.state c.args.shelf.now) (g.W.Entropy.state c.args.entropy.now).faults (g.M.Manager.state (manager_of c.args.desk.now)).meaning.faults)
+    (tally_of (g.F.Shelf.state c.args.shelf.now) (g.W.Entropy.state c.fill.new.self).faults (g.M.Manager.state (manager_of c.open_seal-opened.new.self)).meaning.faults) (record { kind = Seal; end = end; served = c.served_since-served.result }) c.ended_job-in-Err.ensures
     (rose_zero _ _ _ (entropy_sound c.in-Err.error end named) c.fill.ensures.cause.later)
     (keyring_counted c.in-Err.error end _ _ named opened.went.goes.later rose) (rose_zero _ _ _ (shelf_sound c.in-Err.error end named) (omega arith))
 
@@ -224,3 +228,54 @@ returns-in_ok-end_of-in-Err-clause-calls g c = calls_none (IsWrite c.args.to.now
 
 pub returns-in_err-end_of-in-Err-clause-calls : goal.returns-in_err-end_of-in-Err-clause-calls
 returns-in_err-end_of-in-Err-clause-calls g c = calls_none (IsWrite c.args.to.now) _
+
+-- ---- what making the file keeps
+
+pub returns-in-Ok-opened-clause-kind : goal.returns-in-Ok-opened-clause-kind
+returns-in-Ok-opened-clause-kind g c = c.begin.ensures.kind
+
+pub returns-in-Ok-opened-clause-kept : goal.returns-in-Ok-opened-clause-kept
+returns-in-Ok-opened-clause-kept g c = c.begin.ensures.kept
+
+pub returns-in-Ok-opened-clause-calls : goal.returns-in-Ok-opened-clause-calls
+returns-in-Ok-opened-clause-calls g c = c.begin.ensures.calls
+
+pub returns-in-Ok-opened-clause-front : goal.returns-in-Ok-opened-clause-front
+returns-in-Ok-opened-clause-front g c = c.begin.ensures.front
+
+pub returns-in-Ok-opened-clause-worth : goal.returns-in-Ok-opened-clause-worth
+returns-in-Ok-opened-clause-worth g c = c.begin.ensures.worth
+
+-- ---- the file stays
+
+pub returns-in_default-clause-kept : goal.returns-in_default-clause-kept
+returns-in_default-clause-kept g c = keeps_all _ _
+
+pub returns-in_ok-end_of-in-Err-clause-kept : goal.returns-in_ok-end_of-in-Err-clause-kept
+returns-in_ok-end_of-in-Err-clause-kept g c = keeps_all _ _
+
+pub returns-in_err-end_of-in-Err-clause-kept : goal.returns-in_err-end_of-in-Err-clause-kept
+returns-in_err-end_of-in-Err-clause-kept g c = keeps_all _ _
+
+-- ---- memory ran out
+
+pub returns-in_err-end_of-in-Err-clause-turn : goal.returns-in_err-end_of-in-Err-clause-turn
+returns-in_err-end_of-in-Err-clause-turn g c = λ by first last job asked v from admits work to request stands. IfOk-from_err c.from_residual.result _ c.from_residual.ensures.0
+
+pub returns-in_err-end_of-in-Err-clause-numbers : goal.returns-in_err-end_of-in-Err-clause-numbers
+returns-in_err-end_of-in-Err-clause-numbers g c = IfOk-from_err c.from_residual.result _ c.from_residual.ensures.0
+
+pub returns-in_err-end_of-in-Err-clause-draws : goal.returns-in_err-end_of-in-Err-clause-draws
+returns-in_err-end_of-in-Err-clause-draws g c = IfOk-from_err c.from_residual.result _ c.from_residual.ensures.0
+
+pub returns-in_err-end_of-in-Err-clause-lines : goal.returns-in_err-end_of-in-Err-clause-lines
+returns-in_err-end_of-in-Err-clause-lines g c = λ job asked v work request stands. IfOk-from_err c.from_residual.result _ c.from_residual.ensures.0
+
+pub returns-in_err-end_of-in-Err-clause-kind : goal.returns-in_err-end_of-in-Err-clause-kind
+returns-in_err-end_of-in-Err-clause-kind g c = λ work is. IfOk-from_err c.from_residual.result _ c.from_residual.ensures.0
+
+pub returns-in_err-end_of-in-Err-clause-front : goal.returns-in_err-end_of-in-Err-clause-front
+returns-in_err-end_of-in-Err-clause-front g c = IfOk-from_err c.from_residual.result _ c.from_residual.ensures.0
+
+pub returns-in_err-end_of-in-Err-clause-counts : goal.returns-in_err-end_of-in-Err-clause-counts
+returns-in_err-end_of-in-Err-clause-counts g c = λ job to. IfOk-from_err c.from_residual.result _ c.from_residual.ensures.0

@@ -1,6 +1,7 @@
 -- The job at the index has a turn, or it ended before.
 use Rattle.std.proofs.Common.{◌<◌, ◌≤◌, length, get_or, refl, sym, ap, ◌∙◌, inl, inr, arith}
 use Rattle.std.proofs.lemmas.List.{get_or_default}
+use Rattle.std.proofs.lemmas.Result.{IfOk-from_err}
 use Rattle.desk_core.specs.Stands.{last_of}
 use Rattle.esdk_batch.specs.FileEndLaws.{from_later}
 use Rattle.esdk_batch.specs.Progress.{is_ended}
@@ -138,3 +139,43 @@ returns-in_err-take_turn-clause-sessions g c = λ last under beyond.
     let all = c.loop-at.invariant.sessions last under beyond in
     keeps_turn last c.args.desk.now c.loop-at.desk c.take_turn.new.desk c.args.progress.now progress at one within was c.loop-at.invariant.on.room all.0
     (c.in_err-take_turn.ensures.sessions last (omega (arith, under, all.0.later)) (all.1 at c.index-progress-at-in-loop-at.result within))
+
+-- ---- memory ran out
+
+pub returns-in_err-take_turn-clause-stand : goal.returns-in_err-take_turn-clause-stand
+returns-in_err-take_turn-clause-stand g c = λ by start last began v from admits stands stand. IfOk-from_err c.from_residual.result _ c.from_residual.ensures.0
+
+pub returns-in_err-take_turn-clause-beyond : goal.returns-in_err-take_turn-clause-beyond
+returns-in_err-take_turn-clause-beyond g c = λ last under beyond. IfOk-from_err c.from_residual.result _ c.from_residual.ensures.0
+
+pub returns-in_err-take_turn-clause-calls : goal.returns-in_err-take_turn-clause-calls
+returns-in_err-take_turn-clause-calls g c = λ began all. IfOk-from_err c.from_residual.result _ c.from_residual.ensures.0
+
+pub returns-in_err-take_turn-clause-counts : goal.returns-in_err-take_turn-clause-counts
+returns-in_err-take_turn-clause-counts g c = λ began all. IfOk-from_err c.from_residual.result _ c.from_residual.ensures.0
+
+pub returns-in_err-take_turn-clause-past : goal.returns-in_err-take_turn-clause-past
+returns-in_err-take_turn-clause-past g c = IfOk-from_err c.from_residual.result _ c.from_residual.ensures.0
+
+pub returns-in_err-take_turn-clause-ready : goal.returns-in_err-take_turn-clause-ready
+returns-in_err-take_turn-clause-ready g c = IfOk-from_err c.from_residual.result _ c.from_residual.ensures.0
+
+pub returns-in_err-take_turn-clause-known : goal.returns-in_err-take_turn-clause-known
+returns-in_err-take_turn-clause-known g c = IfOk-from_err c.from_residual.result _ c.from_residual.ensures.0
+
+pub returns-in_err-take_turn-clause-opened : goal.returns-in_err-take_turn-clause-opened
+returns-in_err-take_turn-clause-opened g c = IfOk-from_err c.from_residual.result _ c.from_residual.ensures.0
+
+pub returns-in_err-take_turn-clause-room : goal.returns-in_err-take_turn-clause-room
+returns-in_err-take_turn-clause-room g c = IfOk-from_err c.from_residual.result _ c.from_residual.ensures.0
+
+pub returns-in_err-take_turn-clause-falls : goal.returns-in_err-take_turn-clause-falls
+returns-in_err-take_turn-clause-falls g c = IfOk-from_err c.from_residual.result _ c.from_residual.ensures.0
+
+-- ---- it didn't
+
+pub returns-then-turns-width-clause-broken : goal.returns-then-turns-width-clause-broken
+returns-then-turns-width-clause-broken g c = λ began all. tt
+
+pub returns-clause-broken : goal.returns-clause-broken
+returns-clause-broken g c = λ began all. tt

@@ -1,6 +1,7 @@
 -- One round more.
 use Rattle.std.proofs.Common.{◌≡◌, ◌≤◌, true, refl, arith}
 use Rattle.std.proofs.lemmas.List.Elements.{All-nil}
+use Rattle.std.proofs.lemmas.Result.{IfOk-from_err}
 use Rattle.desk_core.specs.Stands.{last_of}
 use Rattle.esdk_batch.specs.Progress.{is_ended}
 use Rattle.esdk_batch.specs.Rounds.{all_waits}
@@ -59,3 +60,17 @@ returns-in_err-run_round-clause-sessions g c = λ last under beyond.
 
 pub returns-clause-sessions : goal.returns-clause-sessions
 returns-clause-sessions g c = λ last under beyond. (c.loop-first.invariant.sessions last under beyond).0
+
+-- ---- memory ran out
+
+pub returns-in_err-run_round-clause-ended : goal.returns-in_err-run_round-clause-ended
+returns-in_err-run_round-clause-ended g c = IfOk-from_err c.from_residual.result _ c.from_residual.ensures.0
+
+pub returns-in_err-run_round-clause-stand : goal.returns-in_err-run_round-clause-stand
+returns-in_err-run_round-clause-stand g c = λ by start last began v from admits stands stand. IfOk-from_err c.from_residual.result _ c.from_residual.ensures.0
+
+pub returns-in_err-run_round-clause-calls : goal.returns-in_err-run_round-clause-calls
+returns-in_err-run_round-clause-calls g c = λ began all. IfOk-from_err c.from_residual.result _ c.from_residual.ensures.0
+
+pub returns-in_err-run_round-clause-counts : goal.returns-in_err-run_round-clause-counts
+returns-in_err-run_round-clause-counts g c = λ began all. IfOk-from_err c.from_residual.result _ c.from_residual.ensures.0

@@ -1,10 +1,13 @@
 -- A further turn is what its reading and its feeding come to.
-use Rattle.std.proofs.Common.{◌≡◌, ◌∙◌, ◌+◌, false, Some, None, length, take, refl, sym, ap, arith}
+use Rattle.std.proofs.Common.{◌≡◌, ◌∙◌, ◌+◌, false, Some, None, length, take, refl, sym, ap, arith, subst}
 use Rattle.std.proofs.lemmas.List.{length-take-le}
+use Rattle.std.proofs.lemmas.Result.{IfOk-from_err}
 use Rattle.desk_core.specs.Desk.{DropSession, after_desk_call}
 use Rattle.desk_core.specs.Stands.{manager_of, journal_of}
+use Rattle.esdk_batch.specs.Failures.{tally_of}
 use Rattle.esdk_batch.specs.FileEndLaws.{from_later}
 use Rattle.esdk_batch.specs.ShelfCalls.{IsReadOf}
+use Rattle.esdk_batch.specs.Turns.{HasKind}
 use Rattle.esdk_batch.specs.Watching.{as_told, files_by}
 use Rattle.esdk_batch.proofs.FedTurns.{broken_so, fed_as, fed_so, reported_is}
 use Rattle.esdk_batch.proofs.FurtherLines.{broken_lines_so, draws_none, fed_lines, known, no_lines_so}
@@ -20,7 +23,7 @@ use Rattle.esdk_batch.proofs.turns.go_on.Goals as goal
 pub returns-in-Err-clause-turn : goal.returns-in-Err-clause-turn
 returns-in-Err-clause-turn g c = λ by first last v from admits stands has. (
   after_desk_call v c.args.live.session false DropSession,
-  c.drop_session-dropped.ensures.stands v stands,
+  c.drop_session.ensures.stands v stands,
   unread_so _ c.args.job.now c.args.live c.ended_job.result c.kind_of-kind.result c.as_str.result.now has.0 v _ _ _ _ c.in-Err.outside c.kind_of-kind.ensures c.ended_job.ensures has.1
       c.in-Err.ensures.reads (still_seen by _ _ c.read_piece.ensures.stays c.in-Err.ensures.tells),
 )
@@ -130,7 +133,7 @@ returns-in-None-clause-lines g c = λ v stands knows.
 -- ---- the moment
 
 pub returns-in-Err-clause-moment : goal.returns-in-Err-clause-moment
-returns-in-Err-clause-moment g c = gains_none c.args.now _ _ c.drop_session-dropped.ensures.journal
+returns-in-Err-clause-moment g c = gains_none c.args.now _ _ c.drop_session.ensures.journal
 
 pub returns-then-count-eq0-clause-moment : goal.returns-then-count-eq0-clause-moment
 returns-then-count-eq0-clause-moment g c = gains_none c.args.now _ _ c.end_session.ensures.journal
@@ -143,13 +146,16 @@ returns-in_err-end-clause-moment g c = gains_none c.args.now _ _ c.end_session.e
 pub returns-in-Err-clause-counts : goal.returns-in-Err-clause-counts
 returns-in-Err-clause-counts g c = λ entropy has.
     unread_counts c.args.job.now c.ended_job.result c.kind_of-kind.result c.args.live.served c.as_str.result.now (g.F.Shelf.state c.args.shelf.now) (g.F.Shelf.state c.read_piece.new.shelf) entropy _ _ c.args.live.at c.in-Err.outside c.ended_job.ensures c.as_str.ensures.text
-    (ap (λ m. (g.M.Manager.state m).meaning.faults) c.drop_session-dropped.ensures.manager) c.in-Err.ensures.reads
+    (ap (λ m. (g.M.Manager.state m).meaning.faults) c.drop_session.ensures.manager) c.in-Err.ensures.reads
 
 pub returns-then-count-eq0-clause-counts : goal.returns-then-count-eq0-clause-counts
 returns-then-count-eq0-clause-counts g c = λ entropy has.
     let there = there_mid _ _ c.args.job.now.to c.as_str-to.result.now c.read_piece.ensures.stays c.as_str-to.ensures.text has in
     let keyring = (g.M.Manager.state (manager_of c.end_session.new.desk)).meaning.faults in
-    counts_from c.args.job.now c.ended_job-then-count-eq0.result _ _ _ refl (omega arith)
+    counts_from c.args.job.now c.ended_job-then-count-eq0.result
+    (tally_of (g.F.Shelf.state c.args.shelf.now) entropy (g.M.Manager.state (manager_of c.args.desk.now)).meaning.faults)
+    (tally_of (g.F.Shelf.state c.args.shelf.now) entropy (g.M.Manager.state (manager_of c.end_session.new.desk)).meaning.faults)
+    (tally_of (g.F.Shelf.state c.end_session.new.shelf) entropy (g.M.Manager.state (manager_of c.end_session.new.desk)).meaning.faults) refl (omega arith)
     (omega (arith, ap (λ m. (g.M.Manager.state m).meaning.faults) c.in_ok-end.ensures.manager)) refl
     (piece_ended c.args.job.now c.ended_job-then-count-eq0.result c.as_str-to.result.now (g.F.Shelf.state c.args.shelf.now) (g.F.Shelf.state c.read_piece.new.shelf) (g.F.Shelf.state c.end_session.new.shelf) entropy keyring keyring c.in-Ok.ensures.reads.1
     (record { kind = c.kind_of-kind.result; end = c.in_ok-end.end; served = c.args.live.served }) c.ended_job-then-count-eq0.ensures (c.in_ok-end.ensures.counts keyring there))
@@ -172,7 +178,7 @@ returns-in-None-clause-counts g c = λ entropy has.
 
 pub returns-in-Err-clause-sessions : goal.returns-in-Err-clause-sessions
 returns-in-Err-clause-sessions g c = λ last beyond.
-    keeps_dropped last c.args.live.session c.args.desk.now c.drop_session-dropped.new.self (c.requires.ready.0, c.requires.ready.1) c.drop_session-dropped.ensures.stands beyond
+    keeps_dropped last c.args.live.session c.args.desk.now c.drop_session.new.self (c.requires.ready.0, c.requires.ready.1) c.drop_session.ensures.stands beyond
 
 -- ---- the calls of the shelf
 
@@ -220,3 +226,128 @@ returns-in-None-clause-further g c =
     reads_further c.args.job.now c.args.live c.as_str.result.now c.as_str-to.result.now _ _ _ (take c.in-Ok.count c.read_piece.new.buffer) c.as_str.ensures.text c.as_str-to.ensures.text
     c.read_piece.ensures.calls.later c.in-Ok.ensures.tells c.feed_piece.ensures.calls (record { session = c.args.live.session; at = c.args.live.at + c.in-Ok.count; served = c.either-served.result })
     (omega (arith, long, c.if-count-eq0.false)) (omega (arith, long))
+
+-- ---- memory ran out at the end
+
+pub returns-in_err-end-clause-turn : goal.returns-in_err-end-clause-turn
+returns-in_err-end-clause-turn g c = λ by first last v from admits stands has. IfOk-from_err c.from_residual.result _ c.from_residual.ensures.0
+
+pub returns-in_err-end-clause-numbers : goal.returns-in_err-end-clause-numbers
+returns-in_err-end-clause-numbers g c = IfOk-from_err c.from_residual.result _ c.from_residual.ensures.0
+
+pub returns-in_err-end-clause-lines : goal.returns-in_err-end-clause-lines
+returns-in_err-end-clause-lines g c = λ v stands knows. IfOk-from_err c.from_residual.result _ c.from_residual.ensures.0
+
+pub returns-in_err-end-clause-kind : goal.returns-in_err-end-clause-kind
+returns-in_err-end-clause-kind g c = IfOk-from_err c.from_residual.result _ c.from_residual.ensures.0
+
+pub returns-in_err-end-clause-further : goal.returns-in_err-end-clause-further
+returns-in_err-end-clause-further g c = IfOk-from_err c.from_residual.result _ c.from_residual.ensures.0
+
+pub returns-in_err-end-clause-counts : goal.returns-in_err-end-clause-counts
+returns-in_err-end-clause-counts g c = λ entropy has. IfOk-from_err c.from_residual.result _ c.from_residual.ensures.0
+
+pub returns-in_err-end-clause-falls : goal.returns-in_err-end-clause-falls
+returns-in_err-end-clause-falls g c = IfOk-from_err c.from_residual.result _ c.from_residual.ensures.0
+
+-- ---- memory ran out at a piece
+
+pub returns-in_err-end-2-clause-turn : goal.returns-in_err-end-2-clause-turn
+returns-in_err-end-2-clause-turn g c = λ by first last v from admits stands has. IfOk-from_err c.from_residual-in_err-end-2.result _ c.from_residual-in_err-end-2.ensures.0
+
+pub returns-in_err-end-2-clause-numbers : goal.returns-in_err-end-2-clause-numbers
+returns-in_err-end-2-clause-numbers g c = IfOk-from_err c.from_residual-in_err-end-2.result _ c.from_residual-in_err-end-2.ensures.0
+
+pub returns-in_err-end-2-clause-lines : goal.returns-in_err-end-2-clause-lines
+returns-in_err-end-2-clause-lines g c = λ v stands knows. IfOk-from_err c.from_residual-in_err-end-2.result _ c.from_residual-in_err-end-2.ensures.0
+
+pub returns-in_err-end-2-clause-kind : goal.returns-in_err-end-2-clause-kind
+returns-in_err-end-2-clause-kind g c = IfOk-from_err c.from_residual-in_err-end-2.result _ c.from_residual-in_err-end-2.ensures.0
+
+pub returns-in_err-end-2-clause-further : goal.returns-in_err-end-2-clause-further
+returns-in_err-end-2-clause-further g c = IfOk-from_err c.from_residual-in_err-end-2.result _ c.from_residual-in_err-end-2.ensures.0
+
+pub returns-in_err-end-2-clause-counts : goal.returns-in_err-end-2-clause-counts
+returns-in_err-end-2-clause-counts g c = λ entropy has. IfOk-from_err c.from_residual-in_err-end-2.result _ c.from_residual-in_err-end-2.ensures.0
+
+pub returns-in_err-end-2-clause-falls : goal.returns-in_err-end-2-clause-falls
+returns-in_err-end-2-clause-falls g c = IfOk-from_err c.from_residual-in_err-end-2.result _ c.from_residual-in_err-end-2.ensures.0
+
+-- ---- what the session's call keeps
+
+pub returns-in_err-end-clause-sessions : goal.returns-in_err-end-clause-sessions
+returns-in_err-end-clause-sessions g c = c.end_session.ensures.sessions
+
+pub returns-in_err-end-clause-kept : goal.returns-in_err-end-clause-kept
+returns-in_err-end-clause-kept g c = rw (c.as_str-to.ensures.text, c.read_piece.ensures.stays) at c.end_session.ensures.kept
+
+pub returns-in_err-end-clause-worth : goal.returns-in_err-end-clause-worth
+returns-in_err-end-clause-worth g c = c.end_session.ensures.worth
+
+pub returns-then-count-eq0-clause-sessions : goal.returns-then-count-eq0-clause-sessions
+returns-then-count-eq0-clause-sessions g c = c.end_session.ensures.sessions
+
+pub returns-then-count-eq0-clause-kept : goal.returns-then-count-eq0-clause-kept
+returns-then-count-eq0-clause-kept g c = rw (c.as_str-to.ensures.text, c.read_piece.ensures.stays) at c.end_session.ensures.kept
+
+pub returns-then-count-eq0-clause-worth : goal.returns-then-count-eq0-clause-worth
+returns-then-count-eq0-clause-worth g c = c.end_session.ensures.worth
+
+pub returns-in_err-end-2-clause-sessions : goal.returns-in_err-end-2-clause-sessions
+returns-in_err-end-2-clause-sessions g c = c.feed_piece.ensures.sessions
+
+pub returns-in_err-end-2-clause-kept : goal.returns-in_err-end-2-clause-kept
+returns-in_err-end-2-clause-kept g c = rw (c.as_str-to.ensures.text, c.read_piece.ensures.stays) at c.feed_piece.ensures.kept
+
+pub returns-in_err-end-2-clause-worth : goal.returns-in_err-end-2-clause-worth
+returns-in_err-end-2-clause-worth g c = c.feed_piece.ensures.worth
+
+pub returns-in_err-end-2-clause-moment : goal.returns-in_err-end-2-clause-moment
+returns-in_err-end-2-clause-moment g c = c.feed_piece.ensures.moment
+
+pub returns-in_err-end-2-clause-went : goal.returns-in_err-end-2-clause-went
+returns-in_err-end-2-clause-went g c = c.feed_piece.ensures.went
+
+pub returns-in-Some-clause-sessions : goal.returns-in-Some-clause-sessions
+returns-in-Some-clause-sessions g c = c.feed_piece.ensures.sessions
+
+pub returns-in-Some-clause-kept : goal.returns-in-Some-clause-kept
+returns-in-Some-clause-kept g c = rw (c.as_str-to.ensures.text, c.read_piece.ensures.stays) at c.feed_piece.ensures.kept
+
+pub returns-in-Some-clause-worth : goal.returns-in-Some-clause-worth
+returns-in-Some-clause-worth g c = c.feed_piece.ensures.worth
+
+pub returns-in-Some-clause-moment : goal.returns-in-Some-clause-moment
+returns-in-Some-clause-moment g c = c.feed_piece.ensures.moment
+
+pub returns-in-Some-clause-went : goal.returns-in-Some-clause-went
+returns-in-Some-clause-went g c = c.feed_piece.ensures.went
+
+pub returns-in-None-clause-sessions : goal.returns-in-None-clause-sessions
+returns-in-None-clause-sessions g c = c.feed_piece.ensures.sessions
+
+pub returns-in-None-clause-kept : goal.returns-in-None-clause-kept
+returns-in-None-clause-kept g c = rw (c.as_str-to.ensures.text, c.read_piece.ensures.stays) at c.feed_piece.ensures.kept
+
+pub returns-in-None-clause-worth : goal.returns-in-None-clause-worth
+returns-in-None-clause-worth g c = c.feed_piece.ensures.worth
+
+pub returns-in-None-clause-moment : goal.returns-in-None-clause-moment
+returns-in-None-clause-moment g c = c.feed_piece.ensures.moment
+
+pub returns-in-None-clause-went : goal.returns-in-None-clause-went
+returns-in-None-clause-went g c = c.feed_piece.ensures.went
+
+-- ---- the kind
+
+pub returns-in-Err-clause-kind : goal.returns-in-Err-clause-kind
+returns-in-Err-clause-kind g c = subst (HasKind c.args.job.now.work) (sym c.ended_job.ensures) c.kind_of-kind.ensures
+
+pub returns-then-count-eq0-clause-kind : goal.returns-then-count-eq0-clause-kind
+returns-then-count-eq0-clause-kind g c = subst (HasKind c.args.job.now.work) (sym c.ended_job-then-count-eq0.ensures) c.kind_of-kind.ensures
+
+pub returns-in-Some-clause-kind : goal.returns-in-Some-clause-kind
+returns-in-Some-clause-kind g c = subst (HasKind c.args.job.now.work) (sym c.ended_job-in-Some.ensures) c.kind_of-kind.ensures
+
+pub returns-in-None-clause-kind : goal.returns-in-None-clause-kind
+returns-in-None-clause-kind g c = tt

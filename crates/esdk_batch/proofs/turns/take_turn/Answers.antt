@@ -1,5 +1,6 @@
 -- A turn is that of opening the job, or a further one, or none; and the job's file is put in its place.
 use Rattle.std.proofs.Common.{◌≡◌, ◌∙◌, true, false, ap, arith, refl, sym, subst}
+use Rattle.std.proofs.lemmas.Result.{IfOk-from_err}
 use Rattle.esdk_batch.specs.declared.progress.Progress.{Progress}
 use Rattle.esdk_batch.specs.declared.progress.Progress.TheVariants as stages
 use Rattle.esdk_batch.specs.Failures.{HasFile}
@@ -23,26 +24,26 @@ returns-in_ok-next-in-Waiting-clause-turn g c = λ by first last v from admits s
     let turn = c.in_ok-next-in-Waiting.ensures.turn by first last v from admits stands in (
       turn.0,
       turn.1,
-      turn_as _ c.args.job.now c.args.progress.now stages.Waiting c.put_in_place.result v turn.0 _ _ _ _ c.in-Waiting.is
-          (turn_placed _ c.args.job.now stages.Waiting c.in_ok-next-in-Waiting.next c.put_in_place.result v turn.0 _ _ _ _ _ _ _ c.put_in_place.ensures.puts
-          (placed_seen by c.args.job.now c.in_ok-next-in-Waiting.next c.put_in_place.result _ _ (from_later (IsWrite c.args.job.now.to) by _ _ c.in_ok-next-in-Waiting.ensures.calls from) c.put_in_place.ensures.puts.files c.put_in_place.ensures.calls)
+      turn_as _ c.args.job.now c.args.progress.now stages.Waiting c.end_turn.new.progress v turn.0 _ _ _ _ c.in-Waiting.is
+          (turn_placed _ c.args.job.now stages.Waiting c.in_ok-next-in-Waiting.next c.end_turn.new.progress v turn.0 _ _ _ _ _ _ _ c.end_turn.ensures.puts
+          (placed_seen by c.args.job.now c.in_ok-next-in-Waiting.next c.end_turn.new.progress _ _ (from_later (IsWrite c.args.job.now.to) by _ _ c.in_ok-next-in-Waiting.ensures.calls from) c.end_turn.ensures.puts.files c.end_turn.ensures.calls)
           turn.2),
     )
 
 pub returns-in_ok-next-in-Waiting-clause-numbers : goal.returns-in_ok-next-in-Waiting-clause-numbers
-returns-in_ok-next-in-Waiting-clause-numbers g c = number_placed c.args.progress.now stages.Waiting c.in_ok-next-in-Waiting.next c.put_in_place.result _ _ _ _ c.in-Waiting.is refl c.put_in_place.ensures.puts c.in_ok-next-in-Waiting.ensures.numbers
+returns-in_ok-next-in-Waiting-clause-numbers g c = number_placed c.args.progress.now stages.Waiting c.in_ok-next-in-Waiting.next c.end_turn.new.progress _ _ _ _ c.in-Waiting.is refl c.end_turn.ensures.puts c.in_ok-next-in-Waiting.ensures.numbers
 
 pub returns-in_ok-next-in-Waiting-clause-lines : goal.returns-in_ok-next-in-Waiting-clause-lines
 returns-in_ok-next-in-Waiting-clause-lines g c = λ v stands knows.
     let lines = c.in_ok-next-in-Waiting.ensures.lines v stands in (
       lines.0,
       lines.1,
-      lines_as c.args.job.now c.args.progress.now stages.Waiting c.put_in_place.result v lines.0 c.in-Waiting.is
-          (lines_placed c.args.job.now stages.Waiting c.in_ok-next-in-Waiting.next c.put_in_place.result v lines.0 _ _ c.put_in_place.ensures.puts lines.2),
+      lines_as c.args.job.now c.args.progress.now stages.Waiting c.end_turn.new.progress v lines.0 c.in-Waiting.is
+          (lines_placed c.args.job.now stages.Waiting c.in_ok-next-in-Waiting.next c.end_turn.new.progress v lines.0 _ _ c.end_turn.ensures.puts lines.2),
     )
 
 pub returns-in_ok-next-in-Waiting-clause-kind : goal.returns-in_ok-next-in-Waiting-clause-kind
-returns-in_ok-next-in-Waiting-clause-kind g c = λ was. kind_placed c.args.job.now.work c.in_ok-next-in-Waiting.next c.put_in_place.result _ _ c.put_in_place.ensures.puts c.in_ok-next-in-Waiting.ensures.kind
+returns-in_ok-next-in-Waiting-clause-kind g c = λ was. kind_placed c.args.job.now.work c.in_ok-next-in-Waiting.next c.end_turn.new.progress _ _ c.end_turn.ensures.puts c.in_ok-next-in-Waiting.ensures.kind
 
 pub returns-in_ok-next-in-Waiting-clause-moment : goal.returns-in_ok-next-in-Waiting-clause-moment
 returns-in_ok-next-in-Waiting-clause-moment g c = λ runs. record { moment = c.now.result; answers = record { given = c.now.ensures.given; told = (c.now.ensures.moment, c.now.ensures.moments) }; gains = c.in_ok-next-in-Waiting.ensures.moment }
@@ -51,14 +52,14 @@ pub returns-in_err-next-in-Waiting-clause-moment : goal.returns-in_err-next-in-W
 returns-in_err-next-in-Waiting-clause-moment g c = λ runs. record { moment = c.now.result; answers = record { given = c.now.ensures.given; told = (c.now.ensures.moment, c.now.ensures.moments) }; gains = c.in_err-next-in-Waiting.ensures.moment }
 
 pub returns-in_ok-next-in-Waiting-clause-kept : goal.returns-in_ok-next-in-Waiting-clause-kept
-returns-in_ok-next-in-Waiting-clause-kept g c = kept_placed _ c.in_ok-next-in-Waiting.next c.put_in_place.result _ _ c.args.job.now.to c.put_in_place.ensures.puts c.in_ok-next-in-Waiting.ensures.kept
+returns-in_ok-next-in-Waiting-clause-kept g c = kept_placed _ c.in_ok-next-in-Waiting.next c.end_turn.new.progress _ _ c.args.job.now.to c.end_turn.ensures.puts c.in_ok-next-in-Waiting.ensures.kept
 
 pub returns-in_ok-next-in-Waiting-clause-falls : goal.returns-in_ok-next-in-Waiting-clause-falls
 returns-in_ok-next-in-Waiting-clause-falls g c = λ left.
-    omega (arith, turns_placed c.in_ok-next-in-Waiting.next c.put_in_place.result _ _ c.put_in_place.ensures.puts, ap turns_left c.in-Waiting.is, turns_first c.in_ok-next-in-Waiting.next _ _ c.in_ok-next-in-Waiting.ensures.numbers)
+    omega (arith, turns_placed c.in_ok-next-in-Waiting.next c.end_turn.new.progress _ _ c.end_turn.ensures.puts, ap turns_left c.in-Waiting.is, turns_first c.in_ok-next-in-Waiting.next _ _ c.in_ok-next-in-Waiting.ensures.numbers)
 
 pub returns-in_ok-next-in-Waiting-clause-counts : goal.returns-in_ok-next-in-Waiting-clause-counts
-returns-in_ok-next-in-Waiting-clause-counts g c = λ runs has. counts_placed c.args.job.now _ _ _ _ _ c.in_ok-next-in-Waiting.next c.put_in_place.result c.put_in_place.ensures.puts c.in_ok-next-in-Waiting.ensures.counts
+returns-in_ok-next-in-Waiting-clause-counts g c = λ runs has. counts_placed c.args.job.now _ _ _ _ _ c.in_ok-next-in-Waiting.next c.end_turn.new.progress c.end_turn.ensures.puts c.in_ok-next-in-Waiting.ensures.counts
 
 -- ---- a further turn
 
@@ -67,28 +68,28 @@ returns-in_ok-next-in-Live-clause-turn g c = λ by first last v from admits stan
     let turn = c.in_ok-next-in-Live.ensures.turn by first last v from admits stands (subst (λ (p : Progress). JobHasSession v.live p) c.in-Live.is has) in (
       turn.0,
       turn.1,
-      turn_as _ c.args.job.now c.args.progress.now (stages.Live c.in-Live.live) c.put_in_place-in-Live.result v turn.0 _ _ _ _ c.in-Live.is
-          (turn_placed _ c.args.job.now (stages.Live c.in-Live.live) c.in_ok-next-in-Live.next c.put_in_place-in-Live.result v turn.0 _ _ _ _ _ _ _ c.put_in_place-in-Live.ensures.puts
-          (placed_seen by c.args.job.now c.in_ok-next-in-Live.next c.put_in_place-in-Live.result _ _ (from_later (IsOfTurn c.args.job.now) by _ _ c.in_ok-next-in-Live.ensures.calls from) c.put_in_place-in-Live.ensures.puts.files
-          c.put_in_place-in-Live.ensures.calls)
+      turn_as _ c.args.job.now c.args.progress.now (stages.Live c.in-Live.live) c.end_turn-in-Live.new.progress v turn.0 _ _ _ _ c.in-Live.is
+          (turn_placed _ c.args.job.now (stages.Live c.in-Live.live) c.in_ok-next-in-Live.next c.end_turn-in-Live.new.progress v turn.0 _ _ _ _ _ _ _ c.end_turn-in-Live.ensures.puts
+          (placed_seen by c.args.job.now c.in_ok-next-in-Live.next c.end_turn-in-Live.new.progress _ _ (from_later (IsOfTurn c.args.job.now) by _ _ c.in_ok-next-in-Live.ensures.calls from) c.end_turn-in-Live.ensures.puts.files
+          c.end_turn-in-Live.ensures.calls)
           (further_taken _ c.args.job.now c.in-Live.live c.in_ok-next-in-Live.next v turn.0 _ _ _ turn.2)),
     )
 
 pub returns-in_ok-next-in-Live-clause-numbers : goal.returns-in_ok-next-in-Live-clause-numbers
 returns-in_ok-next-in-Live-clause-numbers g c =
-    number_placed c.args.progress.now (stages.Live c.in-Live.live) c.in_ok-next-in-Live.next c.put_in_place-in-Live.result _ _ _ _ c.in-Live.is refl c.put_in_place-in-Live.ensures.puts c.in_ok-next-in-Live.ensures.numbers
+    number_placed c.args.progress.now (stages.Live c.in-Live.live) c.in_ok-next-in-Live.next c.end_turn-in-Live.new.progress _ _ _ _ c.in-Live.is refl c.end_turn-in-Live.ensures.puts c.in_ok-next-in-Live.ensures.numbers
 
 pub returns-in_ok-next-in-Live-clause-lines : goal.returns-in_ok-next-in-Live-clause-lines
 returns-in_ok-next-in-Live-clause-lines g c = λ v stands knows.
     let lines = c.in_ok-next-in-Live.ensures.lines v stands (subst (λ (p : Progress). Knows c.args.job.now.work p v.live) c.in-Live.is knows) in (
       lines.0,
       lines.1,
-      lines_as c.args.job.now c.args.progress.now (stages.Live c.in-Live.live) c.put_in_place-in-Live.result v lines.0 c.in-Live.is
-          (lines_placed c.args.job.now (stages.Live c.in-Live.live) c.in_ok-next-in-Live.next c.put_in_place-in-Live.result v lines.0 _ _ c.put_in_place-in-Live.ensures.puts lines.2),
+      lines_as c.args.job.now c.args.progress.now (stages.Live c.in-Live.live) c.end_turn-in-Live.new.progress v lines.0 c.in-Live.is
+          (lines_placed c.args.job.now (stages.Live c.in-Live.live) c.in_ok-next-in-Live.next c.end_turn-in-Live.new.progress v lines.0 _ _ c.end_turn-in-Live.ensures.puts lines.2),
     )
 
 pub returns-in_ok-next-in-Live-clause-kind : goal.returns-in_ok-next-in-Live-clause-kind
-returns-in_ok-next-in-Live-clause-kind g c = λ was. kind_placed c.args.job.now.work c.in_ok-next-in-Live.next c.put_in_place-in-Live.result _ _ c.put_in_place-in-Live.ensures.puts c.in_ok-next-in-Live.ensures.kind
+returns-in_ok-next-in-Live-clause-kind g c = λ was. kind_placed c.args.job.now.work c.in_ok-next-in-Live.next c.end_turn-in-Live.new.progress _ _ c.end_turn-in-Live.ensures.puts c.in_ok-next-in-Live.ensures.kind
 
 pub returns-in_ok-next-in-Live-clause-moment : goal.returns-in_ok-next-in-Live-clause-moment
 returns-in_ok-next-in-Live-clause-moment g c = λ runs. record { moment = c.now-in-Live.result; answers = record { given = c.now-in-Live.ensures.given; told = (c.now-in-Live.ensures.moment, c.now-in-Live.ensures.moments) }; gains = c.in_ok-next-in-Live.ensures.moment }
@@ -97,15 +98,15 @@ pub returns-in_err-next-in-Live-clause-moment : goal.returns-in_err-next-in-Live
 returns-in_err-next-in-Live-clause-moment g c = λ runs. record { moment = c.now-in-Live.result; answers = record { given = c.now-in-Live.ensures.given; told = (c.now-in-Live.ensures.moment, c.now-in-Live.ensures.moments) }; gains = c.in_err-next-in-Live.ensures.moment }
 
 pub returns-in_ok-next-in-Live-clause-kept : goal.returns-in_ok-next-in-Live-clause-kept
-returns-in_ok-next-in-Live-clause-kept g c = kept_placed _ c.in_ok-next-in-Live.next c.put_in_place-in-Live.result _ _ c.args.job.now.to c.put_in_place-in-Live.ensures.puts c.in_ok-next-in-Live.ensures.kept
+returns-in_ok-next-in-Live-clause-kept g c = kept_placed _ c.in_ok-next-in-Live.next c.end_turn-in-Live.new.progress _ _ c.args.job.now.to c.end_turn-in-Live.ensures.puts c.in_ok-next-in-Live.ensures.kept
 
 pub returns-in_ok-next-in-Live-clause-falls : goal.returns-in_ok-next-in-Live-clause-falls
 returns-in_ok-next-in-Live-clause-falls g c = λ left.
-    omega (arith, turns_placed c.in_ok-next-in-Live.next c.put_in_place-in-Live.result _ _ c.put_in_place-in-Live.ensures.puts, ap turns_left c.in-Live.is, c.in_ok-next-in-Live.ensures.falls)
+    omega (arith, turns_placed c.in_ok-next-in-Live.next c.end_turn-in-Live.new.progress _ _ c.end_turn-in-Live.ensures.puts, ap turns_left c.in-Live.is, c.in_ok-next-in-Live.ensures.falls)
 
 pub returns-in_ok-next-in-Live-clause-counts : goal.returns-in_ok-next-in-Live-clause-counts
 returns-in_ok-next-in-Live-clause-counts g c = λ runs has.
-    counts_placed c.args.job.now _ _ _ _ _ c.in_ok-next-in-Live.next c.put_in_place-in-Live.result c.put_in_place-in-Live.ensures.puts
+    counts_placed c.args.job.now _ _ _ _ _ c.in_ok-next-in-Live.next c.end_turn-in-Live.new.progress c.end_turn-in-Live.ensures.puts
     (c.in_ok-next-in-Live.ensures.counts (g.W.Entropy.state c.args.entropy.now).faults
     (subst (λ (p : Progress). HasFile (g.F.Shelf.state c.args.shelf.now).files c.args.job.now p) c.in-Live.is has))
 
@@ -147,21 +148,113 @@ returns-in-Ended-clause-sessions g c = λ last under beyond. keeps_same last (wa
 
 pub returns-in_ok-next-in-Waiting-clause-calls : goal.returns-in_ok-next-in-Waiting-clause-calls
 returns-in_ok-next-in-Waiting-clause-calls g c = λ runs.
-    calls_as c.args.job.now c.args.progress.now stages.Waiting c.put_in_place.result _ _ c.in-Waiting.is
-    (turn_finished c.args.job.now stages.Waiting c.in_ok-next-in-Waiting.next c.put_in_place.result _ _ _ c.in_ok-next-in-Waiting.ensures.kind c.put_in_place.ensures.puts
-    (reads_first c.args.job.now c.in_ok-next-in-Waiting.next _ _ c.in_ok-next-in-Waiting.ensures.front c.in_ok-next-in-Waiting.ensures.calls) c.put_in_place.ensures.calls)
+    calls_as c.args.job.now c.args.progress.now stages.Waiting c.end_turn.new.progress _ _ c.in-Waiting.is
+    (turn_finished c.args.job.now stages.Waiting c.in_ok-next-in-Waiting.next c.end_turn.new.progress _ _ _ c.in_ok-next-in-Waiting.ensures.kind c.end_turn.ensures.puts
+    (reads_first c.args.job.now c.in_ok-next-in-Waiting.next _ _ c.in_ok-next-in-Waiting.ensures.front c.in_ok-next-in-Waiting.ensures.calls) c.end_turn.ensures.calls)
 
 pub returns-in_err-next-in-Waiting-clause-broken : goal.returns-in_err-next-in-Waiting-clause-broken
 returns-in_err-next-in-Waiting-clause-broken g c = λ runs. on_err _ (writes_turn c.args.job.now c.args.job.now.to _ _ refl c.in_err-next-in-Waiting.ensures.calls)
 
 pub returns-in_ok-next-in-Live-clause-calls : goal.returns-in_ok-next-in-Live-clause-calls
 returns-in_ok-next-in-Live-clause-calls g c = λ runs.
-    calls_as c.args.job.now c.args.progress.now (stages.Live c.in-Live.live) c.put_in_place-in-Live.result _ _ c.in-Live.is
-    (turn_finished c.args.job.now (stages.Live c.in-Live.live) c.in_ok-next-in-Live.next c.put_in_place-in-Live.result _ _ _ c.in_ok-next-in-Live.ensures.kind c.put_in_place-in-Live.ensures.puts
-    c.in_ok-next-in-Live.ensures.further c.put_in_place-in-Live.ensures.calls)
+    calls_as c.args.job.now c.args.progress.now (stages.Live c.in-Live.live) c.end_turn-in-Live.new.progress _ _ c.in-Live.is
+    (turn_finished c.args.job.now (stages.Live c.in-Live.live) c.in_ok-next-in-Live.next c.end_turn-in-Live.new.progress _ _ _ c.in_ok-next-in-Live.ensures.kind c.end_turn-in-Live.ensures.puts
+    c.in_ok-next-in-Live.ensures.further c.end_turn-in-Live.ensures.calls)
 
 pub returns-in_err-next-in-Live-clause-broken : goal.returns-in_err-next-in-Live-clause-broken
 returns-in_err-next-in-Live-clause-broken g c = λ runs. on_err _ c.in_err-next-in-Live.ensures.calls
 
 pub returns-in-Ended-clause-calls : goal.returns-in-Ended-clause-calls
 returns-in-Ended-clause-calls g c = λ runs. let no : true ≡ false = ap is_ended (sym c.in-Ended.is) ∙ runs in absurd cc
+
+-- ---- memory ran out in a first turn
+
+pub returns-in_err-next-in-Waiting-clause-turn : goal.returns-in_err-next-in-Waiting-clause-turn
+returns-in_err-next-in-Waiting-clause-turn g c = λ by first last v from admits stands has. IfOk-from_err c.from_residual.result _ c.from_residual.ensures.0
+
+pub returns-in_err-next-in-Waiting-clause-numbers : goal.returns-in_err-next-in-Waiting-clause-numbers
+returns-in_err-next-in-Waiting-clause-numbers g c = IfOk-from_err c.from_residual.result _ c.from_residual.ensures.0
+
+pub returns-in_err-next-in-Waiting-clause-draws : goal.returns-in_err-next-in-Waiting-clause-draws
+returns-in_err-next-in-Waiting-clause-draws g c = IfOk-from_err c.from_residual.result _ c.from_residual.ensures.0
+
+pub returns-in_err-next-in-Waiting-clause-lines : goal.returns-in_err-next-in-Waiting-clause-lines
+returns-in_err-next-in-Waiting-clause-lines g c = λ v stands knows. IfOk-from_err c.from_residual.result _ c.from_residual.ensures.0
+
+pub returns-in_err-next-in-Waiting-clause-kind : goal.returns-in_err-next-in-Waiting-clause-kind
+returns-in_err-next-in-Waiting-clause-kind g c = IfOk-from_err c.from_residual.result _ c.from_residual.ensures.0
+
+pub returns-in_err-next-in-Waiting-clause-calls : goal.returns-in_err-next-in-Waiting-clause-calls
+returns-in_err-next-in-Waiting-clause-calls g c = λ runs. IfOk-from_err c.from_residual.result _ c.from_residual.ensures.0
+
+pub returns-in_err-next-in-Waiting-clause-counts : goal.returns-in_err-next-in-Waiting-clause-counts
+returns-in_err-next-in-Waiting-clause-counts g c = λ runs has. IfOk-from_err c.from_residual.result _ c.from_residual.ensures.0
+
+pub returns-in_err-next-in-Waiting-clause-falls : goal.returns-in_err-next-in-Waiting-clause-falls
+returns-in_err-next-in-Waiting-clause-falls g c = IfOk-from_err c.from_residual.result _ c.from_residual.ensures.0
+
+pub returns-in_err-next-in-Waiting-clause-kept : goal.returns-in_err-next-in-Waiting-clause-kept
+returns-in_err-next-in-Waiting-clause-kept g c = c.open_job.ensures.kept
+
+-- ---- what a first turn keeps
+
+pub returns-in_err-next-in-Waiting-clause-worth : goal.returns-in_err-next-in-Waiting-clause-worth
+returns-in_err-next-in-Waiting-clause-worth g c = c.open_job.ensures.worth
+
+pub returns-in_err-next-in-Waiting-clause-went : goal.returns-in_err-next-in-Waiting-clause-went
+returns-in_err-next-in-Waiting-clause-went g c = c.open_job.ensures.went
+
+pub returns-in_ok-next-in-Waiting-clause-worth : goal.returns-in_ok-next-in-Waiting-clause-worth
+returns-in_ok-next-in-Waiting-clause-worth g c = c.open_job.ensures.worth
+
+pub returns-in_ok-next-in-Waiting-clause-went : goal.returns-in_ok-next-in-Waiting-clause-went
+returns-in_ok-next-in-Waiting-clause-went g c = c.open_job.ensures.went
+
+pub returns-in_ok-next-in-Waiting-clause-broken : goal.returns-in_ok-next-in-Waiting-clause-broken
+returns-in_ok-next-in-Waiting-clause-broken g c = λ runs. tt
+
+-- ---- memory ran out in a further turn
+
+pub returns-in_err-next-in-Live-clause-turn : goal.returns-in_err-next-in-Live-clause-turn
+returns-in_err-next-in-Live-clause-turn g c = λ by first last v from admits stands has. IfOk-from_err c.from_residual-in_err-next-in-Live.result _ c.from_residual-in_err-next-in-Live.ensures.0
+
+pub returns-in_err-next-in-Live-clause-numbers : goal.returns-in_err-next-in-Live-clause-numbers
+returns-in_err-next-in-Live-clause-numbers g c = IfOk-from_err c.from_residual-in_err-next-in-Live.result _ c.from_residual-in_err-next-in-Live.ensures.0
+
+pub returns-in_err-next-in-Live-clause-draws : goal.returns-in_err-next-in-Live-clause-draws
+returns-in_err-next-in-Live-clause-draws g c = IfOk-from_err c.from_residual-in_err-next-in-Live.result _ c.from_residual-in_err-next-in-Live.ensures.0
+
+pub returns-in_err-next-in-Live-clause-lines : goal.returns-in_err-next-in-Live-clause-lines
+returns-in_err-next-in-Live-clause-lines g c = λ v stands knows. IfOk-from_err c.from_residual-in_err-next-in-Live.result _ c.from_residual-in_err-next-in-Live.ensures.0
+
+pub returns-in_err-next-in-Live-clause-kind : goal.returns-in_err-next-in-Live-clause-kind
+returns-in_err-next-in-Live-clause-kind g c = IfOk-from_err c.from_residual-in_err-next-in-Live.result _ c.from_residual-in_err-next-in-Live.ensures.0
+
+pub returns-in_err-next-in-Live-clause-calls : goal.returns-in_err-next-in-Live-clause-calls
+returns-in_err-next-in-Live-clause-calls g c = λ runs. IfOk-from_err c.from_residual-in_err-next-in-Live.result _ c.from_residual-in_err-next-in-Live.ensures.0
+
+pub returns-in_err-next-in-Live-clause-counts : goal.returns-in_err-next-in-Live-clause-counts
+returns-in_err-next-in-Live-clause-counts g c = λ runs has. IfOk-from_err c.from_residual-in_err-next-in-Live.result _ c.from_residual-in_err-next-in-Live.ensures.0
+
+pub returns-in_err-next-in-Live-clause-falls : goal.returns-in_err-next-in-Live-clause-falls
+returns-in_err-next-in-Live-clause-falls g c = IfOk-from_err c.from_residual-in_err-next-in-Live.result _ c.from_residual-in_err-next-in-Live.ensures.0
+
+pub returns-in_err-next-in-Live-clause-kept : goal.returns-in_err-next-in-Live-clause-kept
+returns-in_err-next-in-Live-clause-kept g c = c.go_on.ensures.kept
+
+-- ---- what a further turn keeps
+
+pub returns-in_err-next-in-Live-clause-worth : goal.returns-in_err-next-in-Live-clause-worth
+returns-in_err-next-in-Live-clause-worth g c = c.go_on.ensures.worth
+
+pub returns-in_err-next-in-Live-clause-went : goal.returns-in_err-next-in-Live-clause-went
+returns-in_err-next-in-Live-clause-went g c = c.go_on.ensures.went
+
+pub returns-in_ok-next-in-Live-clause-worth : goal.returns-in_ok-next-in-Live-clause-worth
+returns-in_ok-next-in-Live-clause-worth g c = c.go_on.ensures.worth
+
+pub returns-in_ok-next-in-Live-clause-went : goal.returns-in_ok-next-in-Live-clause-went
+returns-in_ok-next-in-Live-clause-went g c = c.go_on.ensures.went
+
+pub returns-in_ok-next-in-Live-clause-broken : goal.returns-in_ok-next-in-Live-clause-broken
+returns-in_ok-next-in-Live-clause-broken g c = λ runs. tt
