@@ -157,11 +157,6 @@ pub steady_cached : (cache : Option LimitsValue) (tree : KeyringMeaning) → IsS
 steady_cached None tree so some = absurd (true≢false some)
 steady_cached (Some limits) tree so some = so
 
--- a steady tree is steady if there is a cache
-pub steady_so : (cache : Option LimitsValue) (tree : KeyringMeaning) → tree.steady ≡ true → IsSteadyIfCached cache tree
-steady_so None tree steady = tt
-steady_so (Some limits) tree steady = steady
-
 pub tree_outlasts : (cache : Option LimitsValue) (store later : Option Store) (tree left : KeyringMeaning) → Begins cache store tree
     → Went (cached store tree) (cached later left) → TreeOutlasts cache tree left
 tree_outlasts cache store later tree left begins went =

@@ -12,12 +12,12 @@ ghost use Rattle.esdk_run.specs.Trees.{trees_of};
 use crate::failures::tree_failure;
 use crate::file_input::taken;
 use crate::keyring_input::read_keyring;
-use crate::outcome::{Ended, Outcome, without_tree};
+use crate::outcome::{Ended, Outcome, tell_failure, without_tree};
 use crate::text_put::put_text;
 use audit_core::{Audited, all_opened, audit_messages, audit_text};
 use esdk_base::{Shelf, Sink};
 use esdk_fields::Text;
-use esdk_report::{Failure, Status, report_failure};
+use esdk_report::{Failure, Status};
 use job_file::{Audit, read_audit};
 use keyring_file::Plug;
 use keyring_trait::Keyring;
@@ -56,7 +56,7 @@ pub fn run_audit<P: Keyring, O: Sink, R: Sink, F: Shelf>(
     match ended {
         Ok(status) => Ended { status, tree },
         Err(failure) => Ended {
-            status: report_failure(alloc, &failure, report),
+            status: tell_failure(alloc, failure, report),
             tree,
         },
     }

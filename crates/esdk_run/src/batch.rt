@@ -18,7 +18,7 @@ ghost use Rattle.esdk_run.specs.Trees.{trees_of};
 use crate::failures::tree_failure;
 use crate::file_input::taken;
 use crate::keyring_input::read_keyring;
-use crate::outcome::{Ended, Outcome, without_tree};
+use crate::outcome::{Ended, Outcome, tell_failure, without_tree};
 use crate::text_put::put_text;
 use batch_report::{BatchReport, report_text};
 use cmm_caching::CachingCmm;
@@ -26,7 +26,7 @@ use cmm_default::DefaultCmm;
 use desk_core::Desk;
 use esdk_base::{Clock, Entropy, Shelf, Sink};
 use esdk_fields::Text;
-use esdk_report::{Failure, Status, report_failure};
+use esdk_report::{Failure, Status};
 use job_file::{Jobs, read_jobs};
 use keyring_file::Plug;
 use keyring_trait::{Keyring, Manager};
@@ -75,7 +75,7 @@ pub fn run_batch<P: Keyring, O: Sink, R: Sink, F: Shelf, W: Entropy, C: Clock>(
     match ended {
         Ok(status) => Ended { status, tree },
         Err(failure) => Ended {
-            status: report_failure(alloc, &failure, report),
+            status: tell_failure(alloc, failure, report),
             tree,
         },
     }

@@ -12,7 +12,7 @@ ghost use Rattle.keyring_trait.specs.Manager.{Went};
 
 use crate::context_told::tell_context;
 use crate::failures::decryption_failure;
-use crate::outcome::{Ended, not_begun};
+use crate::outcome::{Ended, not_begun, tell_failure};
 use crate::prepared::{Prepared, prepare};
 use crate::unarmoured::{is_cut_short, judge_end};
 use armour_core::UnarmouredSource;
@@ -20,7 +20,7 @@ use context_codec::Context;
 use esdk_args::DecryptWords;
 use esdk_base::{Shelf, Sink, Source};
 use esdk_decrypt::{DecryptError, decrypt};
-use esdk_report::{Status, report_failure};
+use esdk_report::Status;
 use header_codec::Settings;
 use keyring_file::Plug;
 use keyring_trait::{Keyring, Manager};
@@ -60,7 +60,7 @@ pub fn run_decrypt<P: Keyring, S: Source, O: Sink, R: Sink, F: Shelf>(
         mut manager,
     } = match prepare(alloc, &asked.pairs, &asked.keyring, shelf, plugs) {
         Ok(prepared) => prepared,
-        Err(failure) => return not_begun(report_failure(alloc, &failure, report)),
+        Err(failure) => return not_begun(tell_failure(alloc, failure, report)),
     };
     let settings = Settings {
         max_keys: asked.max_keys,
@@ -150,6 +150,6 @@ fn report_end<R: Sink>(
 {
     match ended {
         Ok(context) => tell_context(alloc, &context, report),
-        Err(error) => report_failure(alloc, &decryption_failure(error), report),
+        Err(error) => tell_failure(alloc, decryption_failure(error), report),
     }
 }

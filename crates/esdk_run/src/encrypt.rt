@@ -8,12 +8,12 @@ ghost use Rattle.esdk_run.specs.Trees.{trees_of};
 
 use crate::armoured_message::write_message;
 use crate::failures::encryption_failure;
-use crate::outcome::{Ended, not_begun};
+use crate::outcome::{Ended, not_begun, tell_failure};
 use crate::prepared::{Prepared, prepare};
 use esdk_args::EncryptWords;
 use esdk_base::{Entropy, Shelf, Sink, Source};
 use esdk_encrypt::{EncryptError, EncryptOptions};
-use esdk_report::{Status, report_failure};
+use esdk_report::Status;
 use keyring_file::Plug;
 use keyring_trait::{EncRequest, Keyring};
 use std::alloc::Global;
@@ -53,7 +53,7 @@ pub fn run_encrypt<P: Keyring, S: Source, O: Sink, R: Sink, F: Shelf, W: Entropy
         mut manager,
     } = match prepare(alloc, &asked.pairs, &asked.keyring, shelf, plugs) {
         Ok(prepared) => prepared,
-        Err(failure) => return not_begun(report_failure(alloc, &failure, report)),
+        Err(failure) => return not_begun(tell_failure(alloc, failure, report)),
     };
     let request = EncRequest::new(alloc, context, None);
     let options = EncryptOptions {
@@ -86,6 +86,6 @@ fn report_end<R: Sink>(alloc: Global, ended: Result<(), EncryptError>, report: &
 {
     match ended {
         Ok(()) => Status::DONE,
-        Err(error) => report_failure(alloc, &encryption_failure(error), report),
+        Err(error) => tell_failure(alloc, encryption_failure(error), report),
     }
 }

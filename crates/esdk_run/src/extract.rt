@@ -8,11 +8,11 @@ ghost use Rattle.esdk_run.specs.Run.{ExtractRuns, IsDone, is_status};
 ghost use Rattle.esdk_run.specs.Trees.{trees_of};
 
 use crate::failures::extraction_failure;
-use crate::outcome::{Ended, not_begun};
+use crate::outcome::{Ended, not_begun, tell_failure};
 use crate::prepared::{Prepared, prepare};
 use esdk_args::ExtractWords;
 use esdk_base::{Shelf, Sink};
-use esdk_report::{Status, report_failure};
+use esdk_report::Status;
 use extract_core::{ExtractError, extract};
 use header_codec::Settings;
 use keyring_file::Plug;
@@ -49,7 +49,7 @@ pub fn run_extract<P: Keyring, O: Sink, R: Sink, F: Shelf>(
         mut manager,
     } = match prepare(alloc, &asked.pairs, &asked.keyring, shelf, plugs) {
         Ok(prepared) => prepared,
-        Err(failure) => return not_begun(report_failure(alloc, &failure, report)),
+        Err(failure) => return not_begun(tell_failure(alloc, failure, report)),
     };
     let ended = extract(
         alloc,
@@ -78,6 +78,6 @@ fn report_end<R: Sink>(alloc: Global, ended: Result<u64, ExtractError>, report: 
 {
     match ended {
         Ok(_) => Status::DONE,
-        Err(error) => report_failure(alloc, &extraction_failure(error), report),
+        Err(error) => tell_failure(alloc, extraction_failure(error), report),
     }
 }

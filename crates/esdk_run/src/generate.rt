@@ -3,10 +3,11 @@ ghost use Rattle.std.specs.Prelude.{◌≤◌, ◌≡◌, true, IfErr, OnOk};
 ghost use Rattle.esdk_run.specs.Generate.{GenFails, WritesLine};
 ghost use Rattle.esdk_run.specs.Run.{EndsBy, is_status};
 
+use crate::outcome::tell_failure;
 use crate::text_put::put_text;
 use esdk_base::Sink;
 use esdk_gen::gen_text;
-use esdk_report::{Failure, Status, report_failure};
+use esdk_report::{Failure, Status};
 use std::alloc::Global;
 
 /// Writes the line of the generated message of this seed and this size.
@@ -25,7 +26,7 @@ pub fn run_gen<O: Sink, R: Sink>(
 {
     match generate_line(alloc, seed, size, output) {
         Ok(()) => Status::DONE,
-        Err(failure) => report_failure(alloc, &failure, report),
+        Err(failure) => tell_failure(alloc, failure, report),
     }
 }
 

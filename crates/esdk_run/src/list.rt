@@ -7,12 +7,13 @@ ghost use Rattle.esdk_run.specs.Unarmoured.{outlook_of};
 ghost use Rattle.esdk_run.specs.UnarmouredList.{ListEndsAs, ListsAs, wants_header};
 
 use crate::failures::decryption_failure;
+use crate::outcome::tell_failure;
 use crate::unarmoured::{is_cut_short, judge_end};
 use armour_core::UnarmouredSource;
 use esdk_args::ListWords;
 use esdk_base::{Sink, Source};
 use esdk_list::list;
-use esdk_report::{Failure, Status, report_failure};
+use esdk_report::{Failure, Status};
 use std::alloc::Global;
 use whole_input::Pieces;
 
@@ -39,7 +40,7 @@ pub fn run_list<S: Source, O: Sink, R: Sink>(
 {
     match list_input(alloc, asked.armour, asked.uncommitted, input, output) {
         Ok(()) => Status::DONE,
-        Err(failure) => report_failure(alloc, &failure, report),
+        Err(failure) => tell_failure(alloc, failure, report),
     }
 }
 

@@ -7,11 +7,12 @@ ghost use Rattle.esdk_run.specs.Run.{EndsBy, is_status};
 
 use crate::failures::tree_failure;
 use crate::file_input::taken;
+use crate::outcome::tell_failure;
 use crate::text_put::put_text;
 use esdk_args::MigrateWords;
 use esdk_base::{Shelf, Sink};
 use esdk_fields::Blob;
-use esdk_report::{Failure, Status, report_failure};
+use esdk_report::{Failure, Status};
 use keyring_file::migrate;
 use std::alloc::Global;
 
@@ -38,7 +39,7 @@ pub fn run_migrate<O: Sink, R: Sink, F: Shelf>(
 {
     match migrate_file(alloc, asked, output, shelf) {
         Ok(()) => Status::DONE,
-        Err(failure) => report_failure(alloc, &failure, report),
+        Err(failure) => tell_failure(alloc, failure, report),
     }
 }
 

@@ -1,8 +1,11 @@
 //! What a command and a run come to, with the tree that they give back.
 ghost use Rattle.std.specs.Prelude.{◌≡◌, Err, None};
+ghost use Rattle.esdk_report.specs.Report.{Reports};
 
-use esdk_report::{Failure, Status};
+use esdk_base::Sink;
+use esdk_report::{Failure, Status, report_failure};
 use multi_keyring::Node;
+use std::alloc::Global;
 
 /// What a tree of keyrings was used for came to, and the tree as that left it.
 #[derive(Drop)]
@@ -38,4 +41,11 @@ pub fn without_tree<T, P>(failure: Failure) -> Outcome<Result<T, Failure>, Optio
         ended: Err(failure),
         tree: None,
     }
+}
+
+/// Puts on the report why a command failed, and answers the status.
+pub fn tell_failure<R: Sink>(alloc: Global, failure: Failure, report: &mut R) -> Status
+    ensures { Reports failure result.code (R.state report.old) (R.state report.new) }
+{
+    report_failure(alloc, &failure, report)
 }

@@ -9,13 +9,13 @@ ghost use Rattle.esdk_run.specs.Trees.{trees_of};
 use crate::context_told::tell_context;
 use crate::failures::resealing_failure;
 use crate::keyring_input::read_keyring;
-use crate::outcome::{Ended, not_begun};
+use crate::outcome::{Ended, not_begun, tell_failure};
 use crate::prepared::{Prepared, prepare};
 use cmm_default::DefaultCmm;
 use context_codec::Context;
 use esdk_args::ResealWords;
 use esdk_base::{Entropy, Shelf, Sink, Source};
-use esdk_report::{Status, report_failure};
+use esdk_report::Status;
 use header_codec::Settings;
 use keyring_file::Plug;
 use keyring_trait::{Keyring, Manager};
@@ -58,7 +58,7 @@ pub fn run_reseal<P: Keyring, S: Source, O: Sink, R: Sink, F: Shelf, W: Entropy>
         mut manager,
     } = match prepare(alloc, &asked.pairs, &asked.keyring, shelf, plugs) {
         Ok(prepared) => prepared,
-        Err(failure) => return not_begun(report_failure(alloc, &failure, report)),
+        Err(failure) => return not_begun(tell_failure(alloc, failure, report)),
     };
     let none: Vec<Plug<P>> = Vec::new(alloc);
     let second = match read_keyring(alloc, shelf, asked.to_keyring.as_str(), none) {
@@ -67,7 +67,7 @@ pub fn run_reseal<P: Keyring, S: Source, O: Sink, R: Sink, F: Shelf, W: Entropy>
             // Called for its clause alone, which says what a manager keeps that isn't asked.
             let _wraps = manager.wraps();
             return Ended {
-                status: report_failure(alloc, &failure, report),
+                status: tell_failure(alloc, failure, report),
                 tree: Some(manager.into_inner().into_ring()),
             };
         }
@@ -124,6 +124,6 @@ fn report_end<R: Sink>(alloc: Global, ended: Result<Context, InputError>, report
 {
     match ended {
         Ok(context) => tell_context(alloc, &context, report),
-        Err(error) => report_failure(alloc, &resealing_failure(error), report),
+        Err(error) => tell_failure(alloc, resealing_failure(error), report),
     }
 }

@@ -15,12 +15,11 @@ use crate::failures::words_failure;
 use crate::generate::run_gen;
 use crate::list::run_list;
 use crate::migrate::run_migrate;
-use crate::outcome::Ended;
+use crate::outcome::{Ended, tell_failure};
 use crate::reseal::run_reseal;
 use esdk_args::{Request, read_words};
 use esdk_base::{Clock, Entropy, Shelf, Sink, Source};
 use esdk_fields::Text;
-use esdk_report::report_failure;
 use keyring_file::Plug;
 use keyring_trait::Keyring;
 use std::alloc::Global;
@@ -112,7 +111,7 @@ pub fn run<P: Keyring, S: Source, O: Sink, R: Sink, F: Shelf, W: Entropy, C: Clo
             run_reseal(alloc, &asked, input, output, report, shelf, entropy, plugs)
         }
         Err(fault) => Ended {
-            status: report_failure(alloc, &words_failure(fault), report),
+            status: tell_failure(alloc, words_failure(fault), report),
             tree: None,
         },
     }

@@ -10,4 +10,4 @@ returns-in-Ok-clause-runs g c = audit_written _ _ c.as_str.result.now _ _ _ _ _ 
 pub returns-in-Err-clause-runs : goal.returns-in-Err-clause-runs
 returns-in-Err-clause-runs g c =
     audit_failed _ _ c.as_str.result.now _ _ _ _ _ _ _ _ c.in-Err.failure c.as_str.ensures.text
-    (rw c.in-Err.is at c.write_findings-ended.ensures.fails) c.report_failure.ensures
+    (rw c.in-Err.is at c.write_findings-ended.ensures.fails) c.tell_failure.ensures

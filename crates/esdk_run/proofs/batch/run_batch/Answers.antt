@@ -16,10 +16,10 @@ returns-in-Ok-clause-runs g c = λ input.
 pub returns-in-Err-clause-runs : goal.returns-in-Err-clause-runs
 returns-in-Err-clause-runs g c = λ input.
     batch_failed _ _ c.as_str.result.now _ _ _ _ _ c.in-Err.failure c.as_str.ensures.text
-    (rw c.in-Err.is at (c.batch_jobs-ended.ensures.fails input (g.R.Sink.state c.args.report.now) (g.R.Sink.state c.report_failure.new.report))) c.report_failure.ensures
+    (rw c.in-Err.is at (c.batch_jobs-ended.ensures.fails input (g.R.Sink.state c.args.report.now) (g.R.Sink.state c.tell_failure.new.report))) c.tell_failure.ensures
 
 pub returns-in-Ok-clause-ages : goal.returns-in-Ok-clause-ages
 returns-in-Ok-clause-ages g c = ages_kept _ c.as_str.result.now _ _ _ _ _ _ _ c.as_str.ensures.text (rw c.in-Ok.is at c.batch_jobs-ended.ensures.ages)
 
 pub returns-in-Err-clause-ages : goal.returns-in-Err-clause-ages
-returns-in-Err-clause-ages g c = no_ages _ _ _ _ _ _ _ _ _ _ c.in-Err.failure c.report_failure.ensures
+returns-in-Err-clause-ages g c = no_ages _ _ _ _ _ _ _ _ _ _ c.in-Err.failure c.tell_failure.ensures

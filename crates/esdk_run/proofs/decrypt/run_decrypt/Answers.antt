@@ -37,5 +37,5 @@ returns-in-Err-clause-runs g c = λ entropy.
       because = decrypt_not_begun (trees_of g.P.Keyring.meaning c.args.plugs.items None) c.args.asked.now _ _ (as_before _ _ _ ⊤)
           c.in-Err.failure c.in-Err.ensures.cause
           (record { same = (refl, refl); none = refl });
-      said = c.report_failure.ensures;
+      said = c.tell_failure.ensures;
     }))

@@ -41,5 +41,5 @@ returns-in-Err-clause-runs g c =
       failure = c.in-Err.failure;
       because = encrypt_not_begun (trees_of g.P.Keyring.meaning c.args.plugs.items None) c.args.asked.now _ _ _ c.in-Err.failure c.in-Err.ensures.cause
           (record { same = ((refl, refl), refl); none = refl });
-      said = c.report_failure.ensures;
+      said = c.tell_failure.ensures;
     }))

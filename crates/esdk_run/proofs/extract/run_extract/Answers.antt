@@ -45,5 +45,5 @@ returns-in-Err-clause-runs g c = λ input entropy.
       because = extract_not_begun (trees_of g.P.Keyring.meaning c.args.plugs.items None) c.args.asked.now _ _ (as_before ⊤ _ _ ⊤)
           c.in-Err.failure c.in-Err.ensures.cause
           (record { same = refl; none = refl });
-      said = c.report_failure.ensures;
+      said = c.tell_failure.ensures;
     }))

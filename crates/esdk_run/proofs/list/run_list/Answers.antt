@@ -13,4 +13,4 @@ pub returns-in-Err-clause-judged : goal.returns-in-Err-clause-judged
 returns-in-Err-clause-judged g c =
     status_agrees c.args.asked.now.armour c.args.asked.now.uncommitted (g.S.Source.state c.args.input.now) (g.S.Source.state c.list_input.new.input)
     (g.O.Sink.state c.args.output.now) (g.O.Sink.state c.list_input.new.output) (c.list_input.new.output ≡ c.args.output.now) _ (g.R.Sink.state c.args.report.now)
-    (g.R.Sink.state c.report_failure.new.report) (inr (record { failure = c.in-Err.failure; because = c.in-Err.ensures.ends; said = c.report_failure.ensures }))
+    (g.R.Sink.state c.tell_failure.new.report) (inr (record { failure = c.in-Err.failure; because = c.in-Err.ensures.ends; said = c.tell_failure.ensures }))

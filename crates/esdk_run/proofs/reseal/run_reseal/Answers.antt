@@ -67,7 +67,7 @@ returns-in-Err-read_keyring-clause-runs g c =
           })
           (rw c.new-none.ensures.items at (rw c.as_str.ensures.text at c.in-Err-read_keyring.ensures.cause))
           ((refl, refl), refl);
-      said = c.report_failure-in-Err-read_keyring.ensures;
+      said = c.tell_failure-in-Err-read_keyring.ensures;
     })
 
 pub returns-in-Err-clause-runs : goal.returns-in-Err-clause-runs
@@ -76,5 +76,5 @@ returns-in-Err-clause-runs g c =
       failure = c.in-Err.failure;
       because = reseal_not_begun (trees_of g.P.Keyring.meaning c.args.plugs.items None) c.args.asked.now _ _ _ c.in-Err.failure c.in-Err.ensures.cause
           (record { same = ((refl, refl), refl); none = refl });
-      said = c.report_failure.ensures;
+      said = c.tell_failure.ensures;
     }))

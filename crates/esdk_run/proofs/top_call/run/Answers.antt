@@ -126,10 +126,10 @@ returns-in-Ok-Reseal-clause-promises g c =
 pub returns-in-Err-clause-runs : goal.returns-in-Err-clause-runs
 returns-in-Err-clause-runs g c =
     refused_runs _ _ c.in-Err.fault _ _ _ _ c.in-Err.ensures.read refl refl refl refl refl refl refl
-    (rw c.words_failure.ensures at c.report_failure.ensures)
+    (rw c.words_failure.ensures at c.tell_failure.ensures)
 
 pub returns-in-Err-clause-promises : goal.returns-in-Err-clause-promises
 returns-in-Err-clause-promises g c =
     promised _ _ _ _ _ _ _ (λ same. ap g.O.Sink.state same) (λ same. ap g.F.Shelf.state same) (returns-in-Err-clause-runs g c)
-    (refused_keeps _ c.in-Err.fault _ _ _ _ _ c.in-Err.ensures.read (rw c.words_failure.ensures at c.report_failure.ensures)
+    (refused_keeps _ c.in-Err.fault _ _ _ _ _ c.in-Err.ensures.read (rw c.words_failure.ensures at c.tell_failure.ensures)
     refl refl refl refl refl refl)
