@@ -23,26 +23,23 @@
 //! | `suite ID` | `known` or `unknown` |
 //!
 //! An argument is bytes: `-` for none, `@SEED:LENGTH` for made ones, else hexadecimal digits. Bytes
-//! are printed as `shown` says.
+//! are printed as `Call::put` says.
 #![tactic(auto)]
 
-mod bytes;
+mod answer;
+mod call;
 mod calls;
-mod line;
-mod shown;
-mod wrong;
 
-use line::answer;
-use std::io::Read;
+use answer::answer;
+use std::io;
 use std::process::ExitCode;
-use wrong::Wrong;
 
 /// Answers the lines of standard input.
 fn main(rt: HostRuntime) -> ExitCode {
     let mut number = 0;
     match answer_input(&rt, &mut number) {
         Ok(()) => ExitCode::SUCCESS,
-        Err(Wrong(what)) => {
+        Err(what) => {
             let _ = println!(rt; "line {number}: {what}");
             ExitCode::FAILURE
         }
@@ -50,26 +47,36 @@ fn main(rt: HostRuntime) -> ExitCode {
 }
 
 /// Answers the lines of the input. The number is left at the line that was taken last.
-fn answer_input(rt: &(impl Input + Print + AllocGlobal), number: &mut u64) -> Result<(), Wrong> {
-    let mut bytes = Vec::new(rt.alloc());
-    if rt.reader().read_to_end(&mut bytes).is_err() {
-        return Err(Wrong("the input can't be read"));
+fn answer_input(rt: &HostRuntime, number: &mut u64) -> Result<(), &'static str> {
+    match io::read_to_string(rt.alloc(), rt.reader()) {
+        Ok(text) => answer_lines(rt, text.as_str(), number),
+        Err(_) => Err("the input can't be read"),
     }
-    let Ok(text) = str::from_utf8(&bytes) else {
-        return Err(Wrong("not UTF-8"));
-    };
+}
+
+/// Answers these lines.
+fn answer_lines(rt: &HostRuntime, text: &str, number: &mut u64) -> Result<(), &'static str> {
     for line in text.lines() {
         *number = number.saturating_add(1);
-        print_answer(rt, line)?;
+        if let Err(what) = print_answer(rt, line) {
+            return Err(what);
+        }
     }
     Ok(())
 }
 
 /// Prints what a line's call answers.
-fn print_answer(rt: &(impl Print + AllocGlobal), line: &str) -> Result<(), Wrong> {
-    let answer = answer(rt.alloc(), line)?;
-    match rt.println(answer.as_str()) {
+fn print_answer(rt: &HostRuntime, line: &str) -> Result<(), &'static str> {
+    match answer(rt.alloc(), line) {
+        Ok(answer) => print_line(rt, answer.as_str()),
+        Err(what) => Err(what),
+    }
+}
+
+/// Prints a line.
+fn print_line(rt: &HostRuntime, line: &str) -> Result<(), &'static str> {
+    match rt.println(line) {
         Ok(()) => Ok(()),
-        Err(_) => Err(Wrong("the output failed")),
+        Err(_) => Err("the output failed"),
     }
 }

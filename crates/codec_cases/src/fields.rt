@@ -1,8 +1,6 @@
 //! Numbers, bytes and texts.
 
-ghost use Rattle.std.specs.Prelude.{◌≤◌, length};
-
-use crate::line::Line;
+use crate::line::{Line, text_of};
 use crate::words::Words;
 use crate::wrong::Wrong;
 use esdk_fields::{
@@ -15,115 +13,125 @@ use std::cmp::Ordering;
 
 /// `put N16 N32 N64 BYTES`: two numbers of two and four bytes, one of eight, and bytes behind their
 /// length.
-pub(crate) fn put(words: &mut Words<'_>, line: &mut Line) -> Result<(), Wrong> {
-    let two = words.number32();
-    let four = words.number32();
-    let eight = words.number() as u64;
-    let bytes = words.part();
-    if two > 65_535 {
-        return Err(Wrong::Word);
-    }
-    line.blob(fields_text(words.alloc, two as u16, four, eight, bytes.bytes()));
-    Ok(())
-}
-
-/// The text of these fields.
-fn fields_text(
-    alloc: Global,
-    two: u16,
-    four: u32,
-    eight: u64,
-    bytes: &[u8],
-) -> Result<Blob, AllocError>
-    requires { length bytes.now ≤ 65535 }
-{
-    let mut out = Blob::new(alloc);
-    put_u16(&mut out, two)?;
-    put_u32(&mut out, four)?;
-    put_u64(&mut out, eight)?;
-    put_sized(&mut out, bytes)?;
-    Ok(out)
+pub(crate) fn put(words: &mut Words<'_>, line: &mut Line) {
+    let mut out = Blob::new(words.alloc);
+    line.check(put_u16(&mut out, words.number(65_535) as u16));
+    line.check(put_u32(&mut out, words.number32()));
+    line.check(put_u64(&mut out, words.number(usize::MAX) as u64));
+    let bytes = words.few_bytes(65_535);
+    line.check(put_sized(&mut out, bytes.bytes()));
+    line.bytes(out.bytes());
 }
 
 /// `read BYTES`: a number of one byte, of two, four and eight, and bytes behind their length, up to
 /// the first that isn't whole, and how many bytes were taken.
-pub(crate) fn read(words: &mut Words<'_>, line: &mut Line) -> Result<(), Wrong> {
+pub(crate) fn read(words: &mut Words<'_>, line: &mut Line) {
     let bytes = words.bytes();
     let mut cursor = Cursor::new(bytes.bytes());
-    read_fields(&mut cursor, line);
+    if !read_numbers(&mut cursor, line) || !read_bytes(&mut cursor, line) {
+        line.word("wanting");
+    }
     line.word("at");
     line.number(cursor.offset() as u64);
-    Ok(())
 }
 
-/// Puts the fields that are whole.
-fn read_fields(cursor: &mut Cursor<'_>, line: &mut Line) {
-    let Ok(one) = u8_of(cursor) else {
-        line.word("wanting");
-        return;
+/// Puts the numbers that are whole, and answers whether all are.
+fn read_numbers(cursor: &mut Cursor<'_>, line: &mut Line) -> bool {
+    let Some(one) = u8_of(cursor).ok() else {
+        return false;
     };
-    line.number(u64::from(one));
-    let Ok(two) = u16_of(cursor) else {
-        line.word("wanting");
-        return;
+    line.number(one as u64);
+    let Some(two) = u16_of(cursor).ok() else {
+        return false;
     };
-    line.number(u64::from(two));
-    let Ok(four) = u32_of(cursor) else {
-        line.word("wanting");
-        return;
+    line.number(two as u64);
+    let Some(four) = u32_of(cursor).ok() else {
+        return false;
     };
-    line.number(u64::from(four));
-    let Ok(eight) = u64_of(cursor) else {
-        line.word("wanting");
-        return;
+    line.number(four as u64);
+    let Some(eight) = u64_of(cursor).ok() else {
+        return false;
     };
     line.number(eight);
+    true
+}
+
+/// Puts bytes that stand behind their length, and answers whether they are whole.
+fn read_bytes(cursor: &mut Cursor<'_>, line: &mut Line) -> bool {
     match sized_of(cursor) {
-        Ok(bytes) => line.bytes(bytes),
-        Err(_) => line.word("wanting"),
+        Ok(bytes) => {
+            line.bytes(bytes);
+            true
+        }
+        Err(_) => false,
     }
 }
 
 /// `texts TEXT TEXT`: how the first text, copied, compares with the second, and whether they are
 /// equal.
-pub(crate) fn compare(words: &mut Words<'_>, line: &mut Line) -> Result<(), Wrong> {
-    let first = words.text()?.copy()?;
-    let second = words.text()?;
-    line.word(order_word(first.cmp(&second)));
-    line.word(if first == second { "same" } else { "other" });
-    Ok(())
+pub(crate) fn compare(words: &mut Words<'_>, line: &mut Line) {
+    let first = words.text();
+    let second = words.text();
+    match copied_text(words.alloc, text_of(&first)) {
+        Ok(copy) => match Text::new(words.alloc, text_of(&second)) {
+            Ok(other) => put_order(&copy, &other, line),
+            Err(_) => line.cut(),
+        },
+        Err(_) => line.cut(),
+    }
 }
 
-/// The word for an order.
-fn order_word(order: Ordering) -> &'static str {
-    match order {
+/// The copy of a text.
+fn copied_text(alloc: Global, text: &str) -> Result<Text, AllocError> {
+    match Text::new(alloc, text) {
+        Ok(text) => text.copy(),
+        Err(error) => Err(error),
+    }
+}
+
+/// Puts how a text compares with another one, and whether they are equal.
+fn put_order(text: &Text, other: &Text, line: &mut Line) {
+    line.word(match text.cmp(other) {
         Ordering::Less => "less",
         Ordering::Equal => "equal",
         Ordering::Greater => "greater",
-    }
+    });
+    line.word(if text == other { "same" } else { "other" });
 }
 
 /// `refusal NUMBER TEXT`: a line that no other call and no run of `esdk` prints; behind K9's, the
 /// bytes that are printed.
-pub(crate) fn name(words: &mut Words<'_>, line: &mut Line) -> Result<(), Wrong> {
-    let number = words.word();
-    let text = words.text()?;
+pub(crate) fn name(words: &mut Words<'_>, line: &mut Line) {
+    let number = words.choice("Q6 Q9 Q10 K9");
+    let text = words.text();
     match number {
-        "Q6" => line.refusal(&Refusal::GeneratorHasKey),
-        "Q9" => line.refusal(&Refusal::TooManyFrames),
-        "Q10" => line.refusal(&Refusal::OverDeclared(u64::MAX)),
-        "K9" => put_clash(words.alloc, text, line)?,
-        _ => return Err(Wrong::Word),
+        0 => line.refusal(&Refusal::GeneratorHasKey),
+        1 => line.refusal(&Refusal::TooManyFrames),
+        2 => line.refusal(&Refusal::OverDeclared(u64::MAX)),
+        3 => put_clash(words.alloc, text_of(&text), line),
+        _ => words.refuse(Wrong::Word),
     }
-    Ok(())
 }
 
 /// Puts K9 with this name, and its bytes as they are printed.
-fn put_clash(alloc: Global, name: Text, line: &mut Line) -> Result<(), AllocError> {
-    let copy = FileRefusal::NamesClash(name).copy(alloc)?;
-    let text = file_text(alloc, &copy)?;
-    let shown = printed(alloc, &text);
-    line.written(Ok(text));
-    line.blob(shown);
-    Ok(())
+fn put_clash(alloc: Global, name: &str, line: &mut Line) {
+    match clash_text(alloc, name) {
+        Ok(text) => {
+            let shown = printed(alloc, &text);
+            line.text(Ok(text));
+            line.blob(shown);
+        }
+        Err(_) => line.cut(),
+    }
+}
+
+/// The text of K9 with a copy of this name.
+fn clash_text(alloc: Global, name: &str) -> Result<Blob, AllocError> {
+    match Text::new(alloc, name) {
+        Ok(name) => match FileRefusal::NamesClash(name).copy(alloc) {
+            Ok(copy) => file_text(alloc, &copy),
+            Err(error) => Err(error),
+        },
+        Err(error) => Err(error),
+    }
 }

@@ -14,12 +14,12 @@ use std::alloc::Global;
 /// through until the header is whole or refused: what the last step answers, and how many bytes
 /// were used, or were there where the fault came; then what one more step over a byte answers, and
 /// the header, or `none`.
-pub(crate) fn read(words: &mut Words<'_>, line: &mut Line) -> Result<(), Wrong> {
+pub(crate) fn read(words: &mut Words<'_>, line: &mut Line) {
     let settings = words.settings();
-    let piece = words.number();
+    let piece = words.number(usize::MAX);
     let bytes = words.bytes();
     if piece == 0 {
-        return Err(Wrong::Word);
+        return words.refuse(Wrong::Word);
     }
     let mut reader = HeaderReader::new(words.alloc, settings);
     let used = feed(words.alloc, &mut reader, bytes.bytes(), piece, line);
@@ -29,7 +29,6 @@ pub(crate) fn read(words: &mut Words<'_>, line: &mut Line) -> Result<(), Wrong> 
         Some(header) => put_header(header, line),
         None => line.word("none"),
     }
-    Ok(())
 }
 
 /// Steps through the pieces. The answer is how many bytes were used, or were there where the fault
@@ -76,8 +75,8 @@ fn put_step(alloc: Global, reader: &mut HeaderReader, line: &mut Line) {
 
 /// Puts version and suite, the fields of a header, its body and its authentication.
 fn put_header(header: &Header, line: &mut Line) {
-    line.number(u64::from(header.version()));
-    line.number(u64::from(header.suite()));
+    line.number(header.version() as u64);
+    line.number(header.suite() as u64);
     line.bytes(header.message_id());
     line.context(header.stored());
     line.number(header.entries().len() as u64);
@@ -95,13 +94,13 @@ fn put_header(header: &Header, line: &mut Line) {
 fn put_content(content: Content, line: &mut Line) {
     match content {
         Content::Single => line.word("single"),
-        Content::Framed(frame) => line.number(u64::from(frame)),
+        Content::Framed(frame) => line.number(frame as u64),
     }
 }
 
 /// `write-header ID PAIRS ENTRIES FRAME COMMITMENT MAX_KEYS`: the header body, or why it is
 /// refused.
-pub(crate) fn write(words: &mut Words<'_>, line: &mut Line) -> Result<(), Wrong> {
+pub(crate) fn write(words: &mut Words<'_>, line: &mut Line) {
     let id = words.array();
     let stored = words.context();
     let entries = words.entries();
@@ -109,7 +108,7 @@ pub(crate) fn write(words: &mut Words<'_>, line: &mut Line) -> Result<(), Wrong>
     let commitment = words.array();
     let max_keys = words.max_keys();
     if entries.is_empty() || entries.len() > 65_535 || frame == 0 {
-        return Err(Wrong::Word);
+        return words.refuse(Wrong::Word);
     }
     put_body(
         write_header(
@@ -123,31 +122,28 @@ pub(crate) fn write(words: &mut Words<'_>, line: &mut Line) -> Result<(), Wrong>
         ),
         line,
     );
-    Ok(())
 }
 
 /// `write-legacy-header ID PAIRS ENTRIES CONTENT`: the header body of version 1, or why it is
 /// refused.
-pub(crate) fn write_legacy(words: &mut Words<'_>, line: &mut Line) -> Result<(), Wrong> {
+pub(crate) fn write_legacy(words: &mut Words<'_>, line: &mut Line) {
     let id = words.array();
     let stored = words.context();
     let entries = words.entries();
     let content = words.content();
     if entries.is_empty() || entries.len() > 65_535 || matches!(content, Content::Framed(0)) {
-        return Err(Wrong::Word);
+        return words.refuse(Wrong::Word);
     }
     put_body(
         write_legacy_header(words.alloc, &id, &stored, &entries, content),
         line,
     );
-    Ok(())
 }
 
 /// Puts a header body, or why it is refused.
 fn put_body(body: Result<Blob, PairError>, line: &mut Line) {
     match body {
         Ok(body) => line.bytes(body.bytes()),
-        Err(PairError::Refusal(refusal)) => line.refusal(&refusal),
-        Err(PairError::Memory) => line.cut(),
+        Err(error) => line.pair_error(&error),
     }
 }

@@ -1,7 +1,6 @@
 //! The line of an answer.
 
-use crate::wrong::Wrong;
-use context_codec::Context;
+use context_codec::{Context, PairError};
 use edk_codec::DataKeyEntry;
 use esdk_fields::{Blob, Fault, FieldError, Refusal};
 use esdk_report::{fault_text, refusal_text};
@@ -12,7 +11,7 @@ use std::str;
 /// The most bytes that are printed as they are.
 const MOST_SHOWN: usize = 64;
 
-/// The words of an answer, with a space between them. Where memory runs out for a word, there is no
+/// The words of an answer, with a space behind each. Where memory runs out for a word, there is no
 /// text.
 #[derive(Drop)]
 pub(crate) struct Line {
@@ -31,13 +30,11 @@ impl Line {
         }
     }
 
-    /// All of the words. Fails where memory ran out for one.
-    pub(crate) fn into_text(self) -> Result<Option<String>, Wrong> {
-        if self.is_cut {
-            Err(Wrong::Memory)
-        } else {
-            Ok(Some(self.text))
-        }
+    /// All of the words. None where memory ran out for one.
+    pub(crate) fn into_text(self) -> Option<String> {
+        let mut text = self.text;
+        let _ = text.pop();
+        if self.is_cut { None } else { Some(text) }
     }
 
     /// Memory ran out for a word.
@@ -45,56 +42,48 @@ impl Line {
         self.is_cut = true;
     }
 
-    /// Puts a word, or words that are spelled so.
-    pub(crate) fn word(&mut self, word: &str) {
-        if self.push(word).is_err() {
+    /// Looks whether memory ran out for what was made.
+    pub(crate) fn check(&mut self, made: Result<(), AllocError>) {
+        if made.is_err() {
             self.is_cut = true;
         }
     }
 
-    /// Puts a word behind a space, unless it is the first.
-    fn push(&mut self, word: &str) -> Result<(), AllocError> {
-        self.begin()?;
-        self.text.push_str(word)
-    }
-
-    /// Puts a space, unless there is no word yet.
-    fn begin(&mut self) -> Result<(), AllocError> {
-        let space = if self.text.is_empty() { "" } else { " " };
-        self.text.push_str(space)
-    }
-
-    /// Puts a text that was made.
-    pub(crate) fn written(&mut self, text: Result<Blob, AllocError>) {
-        match text {
-            Ok(text) => self.word(str::from_utf8(text.bytes()).unwrap_or("no text")),
-            Err(AllocError) => self.is_cut = true,
-        }
+    /// Puts a word, or words that are spelled so.
+    pub(crate) fn word(&mut self, word: &str) {
+        let put = self.text.push_str(word);
+        self.check(put);
+        let spaced = self.text.push(' ');
+        self.check(spaced);
     }
 
     /// Puts a number.
     pub(crate) fn number(&mut self, number: u64) {
-        if self.push_number(number).is_err() {
-            self.is_cut = true;
-        }
-    }
-
-    fn push_number(&mut self, number: u64) -> Result<(), AllocError> {
-        self.begin()?;
-        write!(self.text, "{number}")
+        let put = write!(self.text, "{number} ");
+        self.check(put);
     }
 
     /// Puts bytes: `-` for none, hexadecimal digits for up to 64, else their number and their
     /// digest by SHA-512.
     pub(crate) fn bytes(&mut self, bytes: &[u8]) {
-        if self.push_bytes(bytes).is_err() {
-            self.is_cut = true;
+        let count = bytes.len();
+        if count == 0 {
+            self.word("-");
+        } else if count <= MOST_SHOWN {
+            self.digits(bytes);
+        } else {
+            let put = write!(self.text, "{count}:");
+            self.check(put);
+            self.digits(&Sha512::digest(bytes));
         }
     }
 
-    fn push_bytes(&mut self, bytes: &[u8]) -> Result<(), AllocError> {
-        self.begin()?;
-        put_bytes(&mut self.text, bytes)
+    /// Puts the hexadecimal digits of bytes.
+    fn digits(&mut self, bytes: &[u8]) {
+        match hex::encode(self.alloc, bytes) {
+            Ok(digits) => self.word(digits.as_str()),
+            Err(AllocError) => self.is_cut = true,
+        }
     }
 
     /// Puts bytes that were made.
@@ -105,16 +94,22 @@ impl Line {
         }
     }
 
+    /// Puts a text that was made.
+    pub(crate) fn text(&mut self, text: Result<Blob, AllocError>) {
+        match text {
+            Ok(text) => self.word(text_of(&text)),
+            Err(AllocError) => self.is_cut = true,
+        }
+    }
+
     /// Puts the line of a fault.
     pub(crate) fn fault(&mut self, fault: &Fault) {
-        let text = fault_text(self.alloc, fault);
-        self.written(text);
+        self.text(fault_text(self.alloc, fault));
     }
 
     /// Puts the line of a refusal.
     pub(crate) fn refusal(&mut self, refusal: &Refusal) {
-        let text = refusal_text(self.alloc, refusal);
-        self.written(text);
+        self.text(refusal_text(self.alloc, refusal));
     }
 
     /// Puts why a reader of fields answers no value.
@@ -126,6 +121,14 @@ impl Line {
         }
     }
 
+    /// Puts why a pair isn't taken.
+    pub(crate) fn pair_error(&mut self, error: &PairError) {
+        match error {
+            PairError::Refusal(refusal) => self.refusal(refusal),
+            PairError::Memory => self.is_cut = true,
+        }
+    }
+
     /// Puts how many pairs a context has, each key and its value, and the length of its text.
     pub(crate) fn context(&mut self, context: &Context) {
         self.number(context.pairs().len() as u64);
@@ -133,7 +136,7 @@ impl Line {
             self.bytes(pair.key().as_bytes());
             self.bytes(pair.value().as_bytes());
         }
-        self.number(u64::from(context.length()));
+        self.number(context.length() as u64);
     }
 
     /// Puts the three parts of an entry.
@@ -144,22 +147,7 @@ impl Line {
     }
 }
 
-/// Puts bytes as they are printed.
-fn put_bytes(text: &mut String, bytes: &[u8]) -> Result<(), AllocError> {
-    if bytes.is_empty() {
-        return text.push_str("-");
-    }
-    if bytes.len() <= MOST_SHOWN {
-        return put_digits(text, bytes);
-    }
-    write!(text, "{}:", bytes.len())?;
-    put_digits(text, &Sha512::digest(bytes))
-}
-
-/// Puts the hexadecimal digits of bytes.
-fn put_digits(text: &mut String, bytes: &[u8]) -> Result<(), AllocError> {
-    for byte in bytes {
-        write!(text, "{byte:02x}")?;
-    }
-    Ok(())
+/// The text that the bytes are, or no text.
+pub(crate) fn text_of(bytes: &Blob) -> &str {
+    str::from_utf8(bytes.bytes()).unwrap_or("")
 }

@@ -9,10 +9,10 @@
 mod calls;
 mod contexts;
 mod entries;
+mod feeding;
 mod fields;
 mod headers;
 mod line;
-mod named;
 mod opening;
 mod sealing;
 mod units;
@@ -21,9 +21,9 @@ mod words;
 mod wrong;
 
 use calls::answer_line;
-use named::Named;
-use std::io::Read;
+use std::io;
 use std::process::ExitCode;
+use words::Value;
 
 /// Answers the calls of standard input, up to the first line that can't be read.
 fn main(rt: HostRuntime) -> ExitCode {
@@ -38,41 +38,38 @@ fn main(rt: HostRuntime) -> ExitCode {
 }
 
 /// Answers the calls of the input. The number is left at the line that was taken last.
-fn answer_input(
-    rt: &(impl Input + Print + AllocGlobal),
-    number: &mut u64,
-) -> Result<(), &'static str> {
-    let mut bytes = Vec::new(rt.alloc());
-    if rt.reader().read_to_end(&mut bytes).is_err() {
-        return Err("the input can't be read");
+fn answer_input(rt: &HostRuntime, number: &mut u64) -> Result<(), &'static str> {
+    match io::read_to_string(rt.alloc(), rt.reader()) {
+        Ok(text) => answer_lines(rt, text.as_str(), number),
+        Err(_) => Err("the input can't be read"),
     }
-    let Ok(text) = str::from_utf8(&bytes) else {
-        return Err("not UTF-8");
-    };
-    let mut named = Named::new(rt.alloc());
+}
+
+/// Answers the calls of these lines.
+fn answer_lines(rt: &HostRuntime, text: &str, number: &mut u64) -> Result<(), &'static str> {
+    let mut values = Vec::new(rt.alloc());
     for line in text.lines() {
         *number = number.saturating_add(1);
-        print_answer(rt, &mut named, line)?;
+        if let Err(what) = print_answer(rt, &mut values, line) {
+            return Err(what);
+        }
     }
     Ok(())
 }
 
 /// Prints the answer to a line, if it has one.
-fn print_answer(
-    rt: &(impl Print + AllocGlobal),
-    named: &mut Named,
-    line: &str,
-) -> Result<(), &'static str> {
-    match answer_line(rt.alloc(), named, line) {
-        Ok(Some(answer)) => print_line(rt, answer.as_str()),
-        Ok(None) => Ok(()),
+fn print_answer(rt: &HostRuntime, values: &mut Vec<Value>, line: &str) -> Result<(), &'static str> {
+    match answer_line(rt.alloc(), values, line) {
+        Ok(answer) => print_line(rt, answer.as_str()),
         Err(wrong) => Err(wrong.what()),
     }
 }
 
-fn print_line(rt: &impl Print, line: &str) -> Result<(), &'static str> {
-    match rt.println(line) {
-        Ok(()) => Ok(()),
-        Err(_) => Err("the output failed"),
+/// Prints a line, if it has a word.
+fn print_line(rt: &HostRuntime, line: &str) -> Result<(), &'static str> {
+    if line.is_empty() || rt.println(line).is_ok() {
+        Ok(())
+    } else {
+        Err("the output failed")
     }
 }

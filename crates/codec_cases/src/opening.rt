@@ -1,16 +1,19 @@
 //! Messages that are opened piece by piece.
 
+use crate::feeding::{Session, feed_all, manager_of};
 use crate::line::Line;
 use crate::words::{Cut, Words};
 use crate::wrong::Wrong;
 use cmm_default::DefaultCmm;
+use esdk_fields::Blob;
 use raw_aes_keyring::RawAes;
 use std::alloc::Global;
 use stream_open::{OpenError, Opener};
 
 /// An opener, the manager that it asks, and how many bytes it has taken.
 #[derive(Drop)]
-struct Session {
+struct Opening {
+    alloc: Global,
     opener: Opener,
     manager: DefaultCmm<RawAes>,
     taken: usize,
@@ -21,63 +24,60 @@ struct Session {
 /// under the raw key `k` of the namespace `ns`, the pairs being given. For each content how many
 /// bytes were taken with the last of its unit, and the content; where there is a fault, its line,
 /// and how many bytes were there; how the end is answered; and the whole context, or `locked`.
-pub(crate) fn open(words: &mut Words<'_>, line: &mut Line) -> Result<(), Wrong> {
+pub(crate) fn open(words: &mut Words<'_>, line: &mut Line) {
     let settings = words.settings();
     let cut = words.cut();
     let key = words.array();
-    let given = words.context();
+    let opener = Opener::new(words.alloc, settings, words.context());
     let bytes = words.bytes();
-    let Ok(keyring) = RawAes::new(words.alloc, "ns", "k", key) else {
-        return Err(Wrong::Memory);
-    };
-    let mut session = Session {
-        opener: Opener::new(words.alloc, settings, given),
-        manager: DefaultCmm::new(keyring),
+    match manager_of(words.alloc, key) {
+        Some(manager) => open_all(words.alloc, opener, manager, cut, &bytes, line),
+        None => words.refuse(Wrong::Memory),
+    }
+}
+
+/// Opens the bytes in these pieces.
+fn open_all(
+    alloc: Global,
+    opener: Opener,
+    manager: DefaultCmm<RawAes>,
+    cut: Cut,
+    bytes: &Blob,
+    line: &mut Line,
+) {
+    let mut opening = Opening {
+        alloc,
+        opener,
+        manager,
         taken: 0,
         is_over: false,
     };
-    session.feed_all(words.alloc, cut, bytes.bytes(), line);
-    session.end(line);
-    Ok(())
+    // Each step takes a byte at least.
+    feed_all(&mut opening, cut, bytes.bytes(), 1, line);
+    opening.end(line);
 }
 
-impl Session {
-    /// Feeds the bytes in these pieces.
-    fn feed_all(&mut self, alloc: Global, cut: Cut, bytes: &[u8], line: &mut Line) {
-        let (front, rest) = bytes.split_at(cut.first.min(bytes.len()));
-        self.feed(alloc, front, line);
-        for piece in rest.chunks(cut.rest.max(1)) {
-            self.feed(alloc, piece, line);
-        }
-    }
-
-    /// Feeds a piece, each step of which takes a byte at least.
-    fn feed(&mut self, alloc: Global, piece: &[u8], line: &mut Line) {
-        let mut left = piece;
-        for _ in 0..piece.len() {
-            left = self.step(alloc, left, line);
-        }
-    }
-
-    /// A step over what is left of a piece, if the session goes on; answers what is left then.
-    fn step<'a>(&mut self, alloc: Global, left: &'a [u8], line: &mut Line) -> &'a [u8] {
+impl Session for Opening {
+    fn step(&mut self, left: &[u8], line: &mut Line) -> usize {
         if self.is_over || left.is_empty() {
-            return &[];
+            return 0;
         }
-        match self.opener.step(alloc, &mut self.manager, 0, left) {
+        match self.opener.step(self.alloc, &mut self.manager, 0, left) {
             Ok(used) => {
                 self.took(used, line);
-                left.get(used..).unwrap_or(&[])
+                used
             }
             Err(error) => {
                 put_error(&error, line);
                 line.number(self.taken.saturating_add(left.len()) as u64);
                 self.is_over = true;
-                &[]
+                0
             }
         }
     }
+}
 
+impl Opening {
     /// Counts the bytes, and puts the content that a step over them gave, if there is one.
     fn took(&mut self, used: usize, line: &mut Line) {
         self.taken = self.taken.saturating_add(used);

@@ -1,19 +1,17 @@
 //! Texts that are sealed piece by piece.
 
+use crate::feeding::{Session, feed_all, manager_of};
 use crate::line::Line;
 use crate::words::{Cut, Words};
 use crate::wrong::Wrong;
-use cmm_default::DefaultCmm;
-use context_codec::{Context, KeySet};
 use esdk_fields::Blob;
 use keyring_trait::{EncMaterials, EncRequest, Manager};
-use raw_aes_keyring::RawAes;
 use std::alloc::Global;
 use stream_seal::{SealError, Sealer};
 
 /// A sealer, what it has given, and how many bytes it has taken.
 #[derive(Drop)]
-struct Session {
+struct Sealing {
     sealer: Sealer,
     message: Blob,
     taken: usize,
@@ -24,46 +22,26 @@ struct Session {
 /// pieces under the raw key `k` of the namespace `ns`; the data key and the initialization vector
 /// of its wrap are RANDOM, the keys are required. For each frame how many bytes were taken before
 /// it was given; where there is a refusal, its line; and the header with all that was given.
-pub(crate) fn seal(words: &mut Words<'_>, line: &mut Line) -> Result<(), Wrong> {
+pub(crate) fn seal(words: &mut Words<'_>, line: &mut Line) {
     let key = words.array();
     let random = words.array();
     let id = words.array();
-    let context = words.context();
-    let keys = words.keys();
-    let frame = words.number32().max(1);
-    let declared = words.limit();
-    let max_keys = words.max_keys();
-    let cut = words.cut();
-    let text = words.bytes();
-    let Some(materials) = materials(words.alloc, key, &random, context, &keys) else {
-        return Err(Wrong::Word);
-    };
-    match Sealer::begin(words.alloc, &materials, declared, frame, max_keys, &id) {
-        Ok(sealer) => seal_all(words.alloc, sealer, cut, text.bytes(), line),
-        Err(error) => put_error(&error, line),
+    match materials(words, key, &random) {
+        Some(materials) => seal_with(words, &materials, &id, line),
+        None => words.refuse(Wrong::Word),
     }
-    Ok(())
 }
 
-/// What the default manager of this key gives. None where the request is refused or memory runs
-/// out.
-fn materials(
-    alloc: Global,
-    key: [u8; 32],
-    random: &[u8; 44],
-    context: Context,
-    keys: &KeySet,
-) -> Option<EncMaterials> {
-    let request = EncRequest::new(alloc, context, None);
-    match (
-        request.requiring(alloc, keys),
-        RawAes::new(alloc, "ns", "k", key),
-    ) {
-        (Ok(request), Ok(keyring)) => {
-            let mut manager = DefaultCmm::new(keyring);
-            drawn(alloc, &mut manager, &request, random)
-        }
-        _ => None,
+/// What the default manager of this key gives for the context and the required keys of the next
+/// words. None where the request is refused or memory runs out.
+fn materials(words: &mut Words<'_>, key: [u8; 32], random: &[u8; 44]) -> Option<EncMaterials> {
+    let request = EncRequest::new(words.alloc, words.context(), None);
+    match request.requiring(words.alloc, &words.keys()) {
+        Ok(request) => match manager_of(words.alloc, key) {
+            Some(mut manager) => drawn(words.alloc, &mut manager, &request, random),
+            None => None,
+        },
+        Err(_) => None,
     }
 }
 
@@ -83,71 +61,61 @@ fn drawn(
     }
 }
 
+/// Seals the text of the next words with these materials.
+fn seal_with(words: &mut Words<'_>, materials: &EncMaterials, id: &[u8; 32], line: &mut Line) {
+    let frame = words.number32().max(1);
+    let declared = words.limit();
+    let max_keys = words.max_keys();
+    let cut = words.cut();
+    let text = words.bytes();
+    match Sealer::begin(words.alloc, materials, declared, frame, max_keys, id) {
+        Ok(sealer) => seal_all(words.alloc, sealer, cut, &text, line),
+        Err(error) => put_error(&error, line),
+    }
+}
+
 /// Seals the text.
-fn seal_all(alloc: Global, sealer: Sealer, cut: Cut, text: &[u8], line: &mut Line) {
-    let mut session = Session {
+fn seal_all(alloc: Global, sealer: Sealer, cut: Cut, text: &Blob, line: &mut Line) {
+    let mut message = Blob::new(alloc);
+    line.check(message.push_all(sealer.header()));
+    let mut sealing = Sealing {
         sealer,
-        message: Blob::new(alloc),
+        message,
         taken: 0,
         is_over: false,
     };
-    session.begin(line);
-    session.feed_all(cut, text, line);
-    session.end(line);
+    // At each byte at most one step gives a frame, and one takes bytes.
+    feed_all(&mut sealing, cut, text.bytes(), 2, line);
+    sealing.end(line);
 }
 
-impl Session {
-    /// Takes the header.
-    fn begin(&mut self, line: &mut Line) {
-        if self.message.push_all(self.sealer.header()).is_err() {
-            line.cut();
-        }
-    }
-
-    /// Feeds the text in these pieces.
-    fn feed_all(&mut self, cut: Cut, text: &[u8], line: &mut Line) {
-        let (front, rest) = text.split_at(cut.first.min(text.len()));
-        self.feed(front, line);
-        for piece in rest.chunks(cut.rest.max(1)) {
-            self.feed(piece, line);
-        }
-    }
-
-    /// Feeds a piece. At each byte of it at most one step gives a frame, and one takes bytes.
-    fn feed(&mut self, piece: &[u8], line: &mut Line) {
-        let mut left = piece;
-        for _ in 0..piece.len().saturating_mul(2) {
-            left = self.step(left, line);
-        }
-    }
-
-    /// A step over what is left of a piece, if the session goes on; answers what is left then.
-    fn step<'a>(&mut self, left: &'a [u8], line: &mut Line) -> &'a [u8] {
+impl Session for Sealing {
+    fn step(&mut self, left: &[u8], line: &mut Line) -> usize {
         if self.is_over || left.is_empty() {
-            return &[];
+            return 0;
         }
         match self.sealer.step(left) {
             Ok(used) => {
                 self.took(used, line);
-                left.get(used..).unwrap_or(&[])
+                used
             }
             Err(error) => {
                 put_error(&error, line);
                 self.is_over = true;
-                &[]
+                0
             }
         }
     }
+}
 
+impl Sealing {
     /// Counts the bytes, and takes the frame that was given, if there is one.
     fn took(&mut self, used: usize, line: &mut Line) {
         let out = self.sealer.out();
         if !out.is_empty() {
             line.number(self.taken as u64);
         }
-        if self.message.push_all(out).is_err() {
-            line.cut();
-        }
+        line.check(self.message.push_all(out));
         self.taken = self.taken.saturating_add(used);
     }
 

@@ -2,7 +2,6 @@
 
 use crate::line::Line;
 use crate::words::Words;
-use crate::wrong::Wrong;
 use context_codec::Context;
 use esdk_fields::Stop;
 use header_codec::{Header, Settings, header_in};
@@ -13,41 +12,44 @@ use std::alloc::{AllocError, Global};
 /// `unlock UNCOMMITTED BYTES KEY PAIRS`: the tag of the header that the bytes begin with, under a
 /// data key and with pairs that are only authenticated, and why they don't unlock the header, or
 /// `unlocked`; or the header's fault and the offset where its field ends, or `wanting`.
-pub(crate) fn unlock(words: &mut Words<'_>, line: &mut Line) -> Result<(), Wrong> {
-    let uncommitted = words.flag();
+pub(crate) fn unlock(words: &mut Words<'_>, line: &mut Line) {
+    let settings = Settings {
+        max_keys: None,
+        max_unit: None,
+        uncommitted: words.flag(),
+    };
     let bytes = words.bytes();
     let key = DataKey::new(words.array());
     let only = words.context();
-    let settings = Settings {
-        uncommitted,
-        ..Settings::none()
-    };
     match header_in(words.alloc, settings, bytes.bytes()) {
-        Ok(found) => put_unlocking(words.alloc, &found.header, &key, &only, line)?,
-        Err(Stop::Fault(fault, at)) => {
-            line.fault(&fault);
-            line.number(at as u64);
-        }
-        Err(_) => line.word("wanting"),
+        Ok(found) => put_unlocking(words.alloc, &found.header, &key, &only, line),
+        Err(stop) => put_stop(&stop, line),
     }
-    Ok(())
+}
+
+/// Puts why there is no header.
+fn put_stop(stop: &Stop, line: &mut Line) {
+    match stop {
+        Stop::Fault(fault, at) => {
+            line.fault(fault);
+            line.number(*at as u64);
+        }
+        Stop::Wanting => line.word("wanting"),
+        Stop::Memory => line.cut(),
+    }
 }
 
 /// Puts the tag of a header, and why it isn't unlocked.
-fn put_unlocking(
-    alloc: Global,
-    header: &Header,
-    key: &DataKey,
-    only: &Context,
-    line: &mut Line,
-) -> Result<(), AllocError> {
-    let tag = tag_under(alloc, header, key, only)?;
-    line.bytes(&tag);
-    match unlocked_key(alloc, header.lock(), only, key)? {
-        Ok(_) => line.word("unlocked"),
-        Err(fault) => line.fault(&fault),
+fn put_unlocking(alloc: Global, header: &Header, key: &DataKey, only: &Context, line: &mut Line) {
+    match tag_under(alloc, header, key, only) {
+        Ok(tag) => line.bytes(&tag),
+        Err(_) => line.cut(),
     }
-    Ok(())
+    match unlocked_key(alloc, header.lock(), only, key) {
+        Ok(Ok(_)) => line.word("unlocked"),
+        Ok(Err(fault)) => line.fault(&fault),
+        Err(_) => line.cut(),
+    }
 }
 
 /// The tag of a header under a data key.
@@ -57,6 +59,10 @@ fn tag_under(
     key: &DataKey,
     only: &Context,
 ) -> Result<[u8; 16], AllocError> {
-    let mut message_key = message_key(alloc, header.algorithm(), key, header.message_id())?;
-    header_tag(alloc, &mut message_key, header.iv(), header.raw(), only)
+    match message_key(alloc, header.algorithm(), key, header.message_id()) {
+        Ok(mut message_key) => {
+            header_tag(alloc, &mut message_key, header.iv(), header.raw(), only)
+        }
+        Err(error) => Err(error),
+    }
 }

@@ -1,7 +1,5 @@
 //! What is wrong with a line that can't be read.
 
-use std::alloc::{AllocError, AllocFailed};
-
 /// What is wrong with a line.
 #[derive(Clone, Copy)]
 pub(crate) enum Wrong {
@@ -27,17 +25,5 @@ impl Wrong {
             Wrong::NoName => "an unknown name",
             Wrong::Memory => "memory ran out",
         }
-    }
-}
-
-impl From<AllocError> for Wrong {
-    fn from(_: AllocError) -> Wrong {
-        Wrong::Memory
-    }
-}
-
-impl<T: Drop> From<AllocFailed<T>> for Wrong {
-    fn from(_: AllocFailed<T>) -> Wrong {
-        Wrong::Memory
     }
 }

@@ -1,14 +1,24 @@
 //! What is asked of materials managers, and what they answer.
 
 use crate::known_wraps::{
-    DATA_KEY, RANDOM, TENANT, are_known, context_of, known_cipher, known_entries,
+    DATA_KEY, KNOWN_CIPHER, RANDOM, TENANT, are_known, context_of, known_entries, known_ring,
 };
+use cmm_default::DefaultCmm;
 use context_codec::Context;
 use keyring_trait::{DecMaterials, DecRequest, EncMaterials, EncRequest, Manager, Served};
+use raw_aes_keyring::RawAes;
 use std::alloc::Global;
 
 /// The suite of the messages that are written.
 pub(crate) const COMMITTING: u16 = 0x0478;
+
+/// The manager of the known keyring. None where memory runs out.
+pub(crate) fn known_manager(alloc: Global) -> Option<DefaultCmm<RawAes>> {
+    match known_ring(alloc) {
+        Some(ring) => Some(DefaultCmm::new(ring)),
+        None => None,
+    }
+}
 
 /// A request to encrypt one byte over these pairs. None where memory runs out.
 pub(crate) fn request_of(alloc: Global, pairs: &[(&str, &str)]) -> Option<EncRequest> {
@@ -38,33 +48,17 @@ pub(crate) fn sealed<M: Manager>(
 fn are_known_materials(materials: &EncMaterials, served: Served) -> bool {
     materials.served() == served
         && *materials.key().bytes() == DATA_KEY
-        && are_known(materials.entries(), &known_cipher())
-}
-
-/// Whether a manager gives these materials at this request.
-fn gives_at<M: Manager>(
-    alloc: Global,
-    manager: &mut M,
-    request: &EncRequest,
-    now: u64,
-    served: Served,
-) -> bool {
-    match sealed(alloc, manager, request, now) {
-        Some(materials) => are_known_materials(&materials, served),
-        None => false,
-    }
+        && are_known(materials.entries(), &KNOWN_CIPHER)
 }
 
 /// Whether a manager gives the known wrap at a request for one byte over `tenant`=`acme`, served
 /// so.
-pub(crate) fn gives_known<M: Manager>(
-    alloc: Global,
-    manager: &mut M,
-    now: u64,
-    served: Served,
-) -> bool {
-    match request_of(alloc, &TENANT) {
-        Some(request) => gives_at(alloc, manager, &request, now, served),
+fn gives<M: Manager>(alloc: Global, manager: &mut M, now: u64, served: Served) -> bool {
+    let Some(request) = request_of(alloc, &TENANT) else {
+        return false;
+    };
+    match sealed(alloc, manager, &request, now) {
+        Some(materials) => are_known_materials(&materials, served),
         None => false,
     }
 }
@@ -76,14 +70,10 @@ pub(crate) fn request_to_open(
     suite: u16,
     given: &[(&str, &str)],
 ) -> Option<DecRequest> {
-    match (
-        context_of(alloc, given),
-        known_entries(alloc, &known_cipher()),
-    ) {
-        (Some(given), Some(entries)) => {
-            Some(DecRequest::new(suite, Context::new(alloc), given, entries))
-        }
-        _ => None,
+    let given = context_of(alloc, given)?;
+    match known_entries(alloc, &KNOWN_CIPHER) {
+        Some(entries) => Some(DecRequest::new(suite, Context::new(alloc), given, entries)),
+        None => None,
     }
 }
 
@@ -92,31 +82,43 @@ fn have_the_key(materials: &DecMaterials, served: Served) -> bool {
     *materials.key().bytes() == DATA_KEY && materials.served() == served
 }
 
-/// Whether a manager finds the known data key at this request, served so.
-fn finds_at<M: Manager>(
-    alloc: Global,
-    manager: &mut M,
-    request: &DecRequest,
-    now: u64,
-    served: Served,
-) -> bool {
-    match manager.for_decryption(alloc, request, now) {
+/// Whether a manager finds the known data key in a message of this suite where `tenant`=`acme` is
+/// given, served so.
+fn finds<M: Manager>(alloc: Global, manager: &mut M, suite: u16, now: u64, served: Served) -> bool {
+    let Some(request) = request_to_open(alloc, suite, &TENANT) else {
+        return false;
+    };
+    match manager.for_decryption(alloc, &request, now) {
         Ok(materials) => have_the_key(&materials, served),
         Err(_) => false,
     }
 }
 
-/// Whether a manager finds the known data key in a message of this suite where `tenant`=`acme` is
-/// given, served so.
-pub(crate) fn finds_known<M: Manager>(
-    alloc: Global,
-    manager: &mut M,
-    suite: u16,
-    now: u64,
-    served: Served,
-) -> bool {
-    match request_to_open(alloc, suite, &TENANT) {
-        Some(request) => finds_at(alloc, manager, &request, now, served),
-        None => false,
+/// What a manager is asked at a moment, over `tenant`=`acme`, and how its answer is served.
+pub(crate) enum Ask {
+    /// It gives the known wrap.
+    Gives(u64, Served),
+    /// It finds the known data key in a message of this suite.
+    Finds(u16, u64, Served),
+}
+
+/// Whether a manager answers so.
+fn is_answered<M: Manager>(alloc: Global, manager: &mut M, ask: &Ask) -> bool {
+    match ask {
+        Ask::Gives(now, served) => gives(alloc, manager, *now, *served),
+        Ask::Finds(suite, now, served) => finds(alloc, manager, *suite, *now, *served),
     }
+}
+
+/// Whether a manager refuses nothing, and answers so one time after the other.
+pub(crate) fn are_answered<M: Manager>(alloc: Global, manager: &mut M, asks: &[Ask]) -> bool {
+    if manager.refuses().is_some() {
+        return false;
+    }
+    for ask in asks {
+        if !is_answered(alloc, manager, ask) {
+            return false;
+        }
+    }
+    true
 }

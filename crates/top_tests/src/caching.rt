@@ -1,8 +1,8 @@
 //! A cache over the default manager of one key: what no words of the program show. How a cache
 //! serves one request after the other is shown by the batches of `cases`.
 
-use crate::asking::{COMMITTING, finds_known};
-use crate::opening::known_manager;
+use crate::asking::Ask::Finds;
+use crate::asking::{Ask, COMMITTING, are_answered, known_manager};
 use cmm_caching::{CacheLimits, CachingCmm};
 use cmm_default::DefaultCmm;
 use keyring_trait::{Manager, Served};
@@ -26,18 +26,17 @@ pub(crate) fn caching(alloc: Global) -> Option<CachingCmm<DefaultCmm<RawAes>>> {
     }
 }
 
-/// Whether a manager refuses nothing, and keeps what it found for messages of the two suites apart.
-fn keeps_suites_apart<M: Manager>(alloc: Global, manager: &mut M) -> bool {
-    manager.refuses().is_none()
-        && finds_known(alloc, manager, COMMITTING, 0, Served::New(1))
-        && finds_known(alloc, manager, 0x0178, 0, Served::New(2))
-        && finds_known(alloc, manager, COMMITTING, 0, Served::Hit(1))
-}
+/// Messages of two suites.
+static TWO_SUITES: [Ask; 3] = [
+    Finds(COMMITTING, 0, Served::New(1)),
+    Finds(0x0178, 0, Served::New(2)),
+    Finds(COMMITTING, 0, Served::Hit(1)),
+];
 
 /// That no line of a journal is within the limits of a new cache is proved.
 #[test]
 fn the_suite_is_a_part_of_the_name(rt: HostRuntime) {
     let mut cache = caching(rt.alloc()).expect(&rt, "memory");
     cache.journal_within(&[]);
-    assert!(rt; keeps_suites_apart(rt.alloc(), &mut cache));
+    assert!(rt; are_answered(rt.alloc(), &mut cache, &TWO_SUITES));
 }

@@ -1,7 +1,7 @@
 //! A keyring over a file, whose file is read anew at each call. What a failing read does is shown
 //! by the cases of plugs.
 
-use crate::known_wraps::{known_cipher, opened, other_cipher, other_key, wrapping_key, wraps};
+use crate::known_wraps::{KNOWN_CIPHER, OTHER_CIPHER, OTHER_KEY, WRAPPING_KEY, opened, wraps};
 use crate::scratch_path::scratch_path;
 use esdk_base::{Readers, Shelf};
 use esdk_memory::MemShelf;
@@ -34,38 +34,34 @@ fn places(rt: HostRuntime, path: &str, key: &[u8; 32]) -> bool {
         && shelf.finish(path, Readers::Owner).is_ok()
 }
 
-/// Whether the keyring makes the known wrap, and opens it.
-fn goes_by_the_key<K: Keyring>(alloc: Global, keyring: &mut K) -> bool {
-    wraps(alloc, keyring, &known_cipher()) && opened(alloc, keyring, &known_cipher()) == Some(true)
-}
-
-/// Whether the keyring wraps and opens under the other key alone.
-fn goes_by_the_other_key<K: Keyring>(alloc: Global, keyring: &mut K) -> bool {
-    wraps(alloc, keyring, &other_cipher())
-        && opened(alloc, keyring, &known_cipher()) == Some(false)
-        && opened(alloc, keyring, &other_cipher()) == Some(true)
+/// Whether the keyring makes the wrap of the one ciphertext, and opens it, and not the other.
+fn goes_by<K: Keyring>(alloc: Global, keyring: &mut K, one: &[u8; 48], other: &[u8; 48]) -> bool {
+    wraps(alloc, keyring, one)
+        && opened(alloc, keyring, one) == Some(true)
+        && opened(alloc, keyring, other) == Some(false)
 }
 
 /// Whether a keyring goes by the wrapping key as long as that stands in the file at this path, and
 /// then by the other one.
 fn goes_by_the_file<K: Keyring>(rt: HostRuntime, path: &str, keyring: &mut K) -> bool {
-    places(rt, path, &wrapping_key())
-        && goes_by_the_key(rt.alloc(), keyring)
-        && places(rt, path, &other_key())
-        && goes_by_the_other_key(rt.alloc(), keyring)
+    places(rt, path, &WRAPPING_KEY)
+        && goes_by(rt.alloc(), keyring, &KNOWN_CIPHER, &OTHER_CIPHER)
+        && places(rt, path, &OTHER_KEY)
+        && goes_by(rt.alloc(), keyring, &OTHER_CIPHER, &KNOWN_CIPHER)
 }
 
-/// Whether the keyring of that file does.
+/// Whether the keyring of that file does; the file is taken away.
 fn keyring_goes_by_the_file(rt: HostRuntime, path: &str) -> bool {
     match KeydirKeyring::new(rt.alloc(), FileShelf::new(rt), path, "ns", "k") {
-        Ok(mut keyring) => goes_by_the_file(rt, path, &mut keyring),
+        Ok(mut keyring) => {
+            goes_by_the_file(rt, path, &mut keyring) && fs::remove_file(&rt, path).is_ok()
+        }
         Err(_) => false,
     }
 }
 
 #[test]
 fn another_key_in_the_file_is_gone_by_at_once(rt: HostRuntime) {
-    let path = scratch_path(&rt, "key").expect(&rt, "memory");
+    let path = scratch_path(rt, "key").expect(&rt, "memory");
     assert!(rt; keyring_goes_by_the_file(rt, path.as_str()));
-    assert!(rt; fs::remove_file(&rt, path.as_str()).is_ok());
 }

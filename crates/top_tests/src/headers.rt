@@ -1,7 +1,7 @@
 //! A header that is taken from a file of a shelf from an offset on. How a header is unlocked, and
 //! the units behind it opened, is shown by the cases that extract a range.
 
-use crate::opening::{NINE_BYTES, part};
+use crate::known_message::{NINE_BYTES, part};
 use esdk_base::Shelf;
 use esdk_memory::MemShelf;
 use header_codec::{Header, HeaderReader, Settings};

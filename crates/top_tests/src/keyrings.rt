@@ -2,7 +2,7 @@
 //! wrap and open, retired keys and boxed keyrings among them, is shown by the cases of keyring files
 //! and plugs.
 
-use crate::known_wraps::{known_cipher, known_ring, opened, wraps};
+use crate::known_wraps::{KNOWN_CIPHER, known_ring, opened, wraps};
 use context_codec::Context;
 use keyring_trait::Keyring;
 use multi_keyring::{Multi, MultiError, Node};
@@ -18,8 +18,8 @@ fn opens_nothing(alloc: Global, ring: &RawAes) -> bool {
 fn is_known<K: Keyring>(alloc: Global, keyring: &mut K) -> bool {
     keyring.refuses(true).is_none()
         && keyring.refuses(false).is_none()
-        && wraps(alloc, keyring, &known_cipher())
-        && opened(alloc, keyring, &known_cipher()) == Some(true)
+        && wraps(alloc, keyring, &KNOWN_CIPHER)
+        && opened(alloc, keyring, &KNOWN_CIPHER) == Some(true)
 }
 
 #[test]
@@ -32,7 +32,7 @@ fn a_copy_takes_all_and_opens_the_same(rt: HostRuntime) {
 /// A tree whose leaves are raw keys.
 type Tree = Node<RawAes>;
 
-/// A raw key, as a tree.
+/// A raw key, as a tree. None where memory runs out.
 fn leaf(alloc: Global) -> Option<Tree> {
     match known_ring(alloc) {
         Some(ring) => Some(Node::Raw(ring)),
@@ -56,24 +56,13 @@ fn above(alloc: Global, tree: Tree) -> Option<Tree> {
     }
 }
 
-/// The same, if there is a tree.
-fn raised(alloc: Global, tree: Option<Tree>) -> Option<Tree> {
-    match tree {
-        Some(tree) => above(alloc, tree),
-        None => None,
+/// So many levels of multi-keyrings above a tree.
+fn raised(alloc: Global, leaf: Tree, levels: u32) -> Option<Tree> {
+    let mut tree = leaf;
+    for _ in 0..levels {
+        tree = above(alloc, tree)?;
     }
-}
-
-/// Two levels more.
-fn raised_twice(alloc: Global, tree: Option<Tree>) -> Option<Tree> {
-    raised(alloc, raised(alloc, tree))
-}
-
-/// A raw key under seven levels of multi-keyrings.
-fn eight_levels(alloc: Global) -> Option<Tree> {
-    let three = raised_twice(alloc, leaf(alloc));
-    let five = raised_twice(alloc, three);
-    raised(alloc, raised_twice(alloc, five))
+    Some(tree)
 }
 
 /// Whether a multi-keyring of no members is refused as empty.
@@ -119,9 +108,9 @@ fn make_65_entries(children: Vec<Tree>) -> bool {
 /// That eight levels and 64 entries are taken is shown by the cases of keyring files.
 #[test]
 fn multi_keyrings_have_a_member_and_eight_levels_and_64_entries_at_most(rt: HostRuntime) {
-    assert!(rt; nothing_is_empty(rt.alloc()));
-    let eight_levels = eight_levels(rt.alloc()).expect(&rt, "memory");
-    assert!(rt; is_too_deep(rt.alloc(), eight_levels));
+    let leaf = leaf(rt.alloc()).expect(&rt, "memory");
+    let eight_levels = raised(rt.alloc(), leaf, 7).expect(&rt, "memory");
     let children = many(rt.alloc(), 65).expect(&rt, "memory");
+    assert!(rt; nothing_is_empty(rt.alloc()) && is_too_deep(rt.alloc(), eight_levels));
     assert!(rt; make_65_entries(children));
 }

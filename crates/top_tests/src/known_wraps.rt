@@ -1,7 +1,7 @@
 //! Wraps over the context with the one pair `tenant`=`acme`, made by AES-256-GCM of Python's
-//! `cryptography` (over OpenSSL): the wrapping keys have the bytes 00 to 1f, 20 to 3f and 40 to 5f,
-//! the namespace `ns` and the name `k`, and the data key and the initialization vector have the
-//! bytes 22.
+//! `cryptography` (over OpenSSL): the wrapping keys have the bytes 00 to 1f and 20 to 3f, the
+//! namespace `ns` and the name `k`, and the data key and the initialization vector have the bytes
+//! 22.
 
 use context_codec::Context;
 use edk_codec::DataKeyEntry;
@@ -10,138 +10,80 @@ use raw_aes_keyring::RawAes;
 use std::alloc::Global;
 
 /// The random bytes of the data key and the initialization vector of one wrap.
-pub(crate) const RANDOM: [u8; 44] = [0x22; 44];
+pub(crate) static RANDOM: [u8; 44] = [0x22; 44];
 
 /// The bytes of the data key.
-pub(crate) const DATA_KEY: [u8; 32] = [0x22; 32];
+pub(crate) static DATA_KEY: [u8; 32] = [0x22; 32];
 
 /// The bytes of the wrapping key.
-pub(crate) fn wrapping_key() -> [u8; 32] {
-    [
-        0x00, 0x01, 0x02, 0x03, 0x04, 0x05, 0x06, 0x07, 0x08, 0x09, 0x0a, 0x0b, 0x0c, 0x0d, 0x0e,
-        0x0f, 0x10, 0x11, 0x12, 0x13, 0x14, 0x15, 0x16, 0x17, 0x18, 0x19, 0x1a, 0x1b, 0x1c, 0x1d,
-        0x1e, 0x1f,
-    ]
-}
+pub(crate) static WRAPPING_KEY: [u8; 32] = [
+    0x00, 0x01, 0x02, 0x03, 0x04, 0x05, 0x06, 0x07, 0x08, 0x09, 0x0a, 0x0b, 0x0c, 0x0d, 0x0e, 0x0f,
+    0x10, 0x11, 0x12, 0x13, 0x14, 0x15, 0x16, 0x17, 0x18, 0x19, 0x1a, 0x1b, 0x1c, 0x1d, 0x1e, 0x1f,
+];
 
 /// The bytes of the other wrapping key.
-pub(crate) fn other_key() -> [u8; 32] {
-    [
-        0x20, 0x21, 0x22, 0x23, 0x24, 0x25, 0x26, 0x27, 0x28, 0x29, 0x2a, 0x2b, 0x2c, 0x2d, 0x2e,
-        0x2f, 0x30, 0x31, 0x32, 0x33, 0x34, 0x35, 0x36, 0x37, 0x38, 0x39, 0x3a, 0x3b, 0x3c, 0x3d,
-        0x3e, 0x3f,
-    ]
-}
-
-/// The bytes of the third wrapping key.
-fn third_key() -> [u8; 32] {
-    [
-        0x40, 0x41, 0x42, 0x43, 0x44, 0x45, 0x46, 0x47, 0x48, 0x49, 0x4a, 0x4b, 0x4c, 0x4d, 0x4e,
-        0x4f, 0x50, 0x51, 0x52, 0x53, 0x54, 0x55, 0x56, 0x57, 0x58, 0x59, 0x5a, 0x5b, 0x5c, 0x5d,
-        0x5e, 0x5f,
-    ]
-}
+pub(crate) static OTHER_KEY: [u8; 32] = [
+    0x20, 0x21, 0x22, 0x23, 0x24, 0x25, 0x26, 0x27, 0x28, 0x29, 0x2a, 0x2b, 0x2c, 0x2d, 0x2e, 0x2f,
+    0x30, 0x31, 0x32, 0x33, 0x34, 0x35, 0x36, 0x37, 0x38, 0x39, 0x3a, 0x3b, 0x3c, 0x3d, 0x3e, 0x3f,
+];
 
 /// The provider information of a wrap: the name, 128 bits of tag, 12 bytes of initialization
 /// vector, and that vector.
-pub(crate) fn known_info() -> [u8; 21] {
-    [
-        0x6b, 0x00, 0x00, 0x00, 0x80, 0x00, 0x00, 0x00, 0x0c, 0x22, 0x22, 0x22, 0x22, 0x22, 0x22,
-        0x22, 0x22, 0x22, 0x22, 0x22, 0x22,
-    ]
-}
+static KNOWN_INFO: [u8; 21] = [
+    0x6b, 0x00, 0x00, 0x00, 0x80, 0x00, 0x00, 0x00, 0x0c, 0x22, 0x22, 0x22, 0x22, 0x22, 0x22, 0x22,
+    0x22, 0x22, 0x22, 0x22, 0x22,
+];
 
-/// The data key wrapped under the first wrapping key, with the tag.
-pub(crate) fn known_cipher() -> [u8; 48] {
-    [
-        0x5f, 0x36, 0x1c, 0xe4, 0x4c, 0xd2, 0xb8, 0x38, 0xa5, 0xbf, 0xad, 0x88, 0xad, 0xdb, 0xc0,
-        0x5f, 0xe4, 0x44, 0x45, 0x2f, 0x39, 0xa6, 0xf7, 0x95, 0x84, 0xd0, 0x06, 0x88, 0xaa, 0x8b,
-        0x93, 0x49, 0xb5, 0x65, 0x9e, 0x7f, 0xa9, 0x62, 0x1e, 0xf1, 0xe5, 0x4a, 0xdf, 0x1c, 0xdd,
-        0xb1, 0xe9, 0x15,
-    ]
-}
+/// The data key wrapped under the wrapping key, with the tag.
+pub(crate) static KNOWN_CIPHER: [u8; 48] = [
+    0x5f, 0x36, 0x1c, 0xe4, 0x4c, 0xd2, 0xb8, 0x38, 0xa5, 0xbf, 0xad, 0x88, 0xad, 0xdb, 0xc0, 0x5f,
+    0xe4, 0x44, 0x45, 0x2f, 0x39, 0xa6, 0xf7, 0x95, 0x84, 0xd0, 0x06, 0x88, 0xaa, 0x8b, 0x93, 0x49,
+    0xb5, 0x65, 0x9e, 0x7f, 0xa9, 0x62, 0x1e, 0xf1, 0xe5, 0x4a, 0xdf, 0x1c, 0xdd, 0xb1, 0xe9, 0x15,
+];
 
 /// The data key wrapped under the other wrapping key, with the tag.
-pub(crate) fn other_cipher() -> [u8; 48] {
-    [
-        0xbe, 0x67, 0x9e, 0x41, 0x43, 0xb5, 0x0e, 0x04, 0xe0, 0xa2, 0xee, 0x7b, 0xe2, 0x54, 0xc4,
-        0x95, 0x46, 0x76, 0xaa, 0xf6, 0x31, 0x54, 0xe5, 0x80, 0xc2, 0x2e, 0x13, 0x66, 0x7b, 0x63,
-        0x8c, 0x14, 0xa2, 0xe8, 0xb2, 0x08, 0x0a, 0x5a, 0x55, 0xae, 0xd0, 0x96, 0xa4, 0x3d, 0x92,
-        0x24, 0xa9, 0x52,
-    ]
-}
+pub(crate) static OTHER_CIPHER: [u8; 48] = [
+    0xbe, 0x67, 0x9e, 0x41, 0x43, 0xb5, 0x0e, 0x04, 0xe0, 0xa2, 0xee, 0x7b, 0xe2, 0x54, 0xc4, 0x95,
+    0x46, 0x76, 0xaa, 0xf6, 0x31, 0x54, 0xe5, 0x80, 0xc2, 0x2e, 0x13, 0x66, 0x7b, 0x63, 0x8c, 0x14,
+    0xa2, 0xe8, 0xb2, 0x08, 0x0a, 0x5a, 0x55, 0xae, 0xd0, 0x96, 0xa4, 0x3d, 0x92, 0x24, 0xa9, 0x52,
+];
 
-/// The data key wrapped under the third wrapping key, with the tag.
-pub(crate) fn third_cipher() -> [u8; 48] {
-    [
-        0xd9, 0x36, 0x4c, 0x75, 0x77, 0x75, 0x8c, 0x68, 0xcc, 0xbe, 0x8e, 0xe1, 0x8a, 0xa2, 0xa5,
-        0x22, 0x77, 0x06, 0xb6, 0x03, 0x3b, 0x10, 0x5c, 0x16, 0x6e, 0xd9, 0x7c, 0x7e, 0xb3, 0x8a,
-        0x04, 0x0b, 0x86, 0x70, 0x6d, 0x1f, 0x03, 0x55, 0x10, 0xa8, 0x60, 0xe1, 0x39, 0xdc, 0xe5,
-        0x15, 0xad, 0xdb,
-    ]
-}
-
-/// The keyring of this wrapping key. None where memory runs out.
-fn ring_of(alloc: Global, key: [u8; 32]) -> Option<RawAes> {
-    match RawAes::new(alloc, "ns", "k", key) {
+/// The keyring of the wrapping key. None where memory runs out.
+pub(crate) fn known_ring(alloc: Global) -> Option<RawAes> {
+    match RawAes::new(alloc, "ns", "k", WRAPPING_KEY) {
         Ok(ring) => Some(ring),
         Err(_) => None,
     }
 }
 
-/// The keyring of the first wrapping key. None where memory runs out.
-pub(crate) fn known_ring(alloc: Global) -> Option<RawAes> {
-    ring_of(alloc, wrapping_key())
-}
+/// The pair that stands in the context of the known wraps.
+pub(crate) static TENANT: [(&str, &str); 1] = [("tenant", "acme")];
 
-/// The keyring of the other wrapping key. None where memory runs out.
-pub(crate) fn other_ring(alloc: Global) -> Option<RawAes> {
-    ring_of(alloc, other_key())
-}
-
-/// The keyring of the third wrapping key. None where memory runs out.
-pub(crate) fn third_ring(alloc: Global) -> Option<RawAes> {
-    ring_of(alloc, third_key())
-}
-
-/// The pair that the known wraps are made over.
-pub(crate) const TENANT: [(&str, &str); 1] = [("tenant", "acme")];
-
-/// The context with these pairs. None where one is refused or memory runs out.
+/// The context of these pairs. None where memory runs out, or they make none.
 pub(crate) fn context_of(alloc: Global, pairs: &[(&str, &str)]) -> Option<Context> {
     let mut context = Context::new(alloc);
     for (key, value) in pairs {
-        match context.insert(alloc, key, value) {
-            Ok(()) => {}
-            Err(_) => return None,
+        if context.insert(alloc, key, value).is_err() {
+            return None;
         }
     }
     Some(context)
 }
 
-/// The entry of this ciphertext. None where memory runs out.
-fn known_entry(alloc: Global, cipher: &[u8; 48]) -> Option<DataKeyEntry> {
-    match DataKeyEntry::new(alloc, b"ns", &known_info(), cipher) {
-        Ok(entry) => Some(entry),
+/// This entry alone, in a row. None where memory runs out.
+fn in_a_row(alloc: Global, entry: DataKeyEntry) -> Option<Vec<DataKeyEntry>> {
+    let mut entries = Vec::new(alloc);
+    match entries.push(entry) {
+        Ok(()) => Some(entries),
         Err(_) => None,
-    }
-}
-
-/// Whether the entry of this ciphertext stands behind the others now.
-fn pushed(alloc: Global, entries: &mut Vec<DataKeyEntry>, cipher: &[u8; 48]) -> bool {
-    match known_entry(alloc, cipher) {
-        Some(entry) => entries.push(entry).is_ok(),
-        None => false,
     }
 }
 
 /// The entry of this ciphertext alone, in a row. None where memory runs out.
 pub(crate) fn known_entries(alloc: Global, cipher: &[u8; 48]) -> Option<Vec<DataKeyEntry>> {
-    let mut entries = Vec::new(alloc);
-    if pushed(alloc, &mut entries, cipher) {
-        Some(entries)
-    } else {
-        None
+    match DataKeyEntry::new(alloc, b"ns", &KNOWN_INFO, cipher) {
+        Ok(entry) => in_a_row(alloc, entry),
+        Err(_) => None,
     }
 }
 
@@ -150,7 +92,7 @@ pub(crate) fn are_known(entries: &[DataKeyEntry], cipher: &[u8; 48]) -> bool {
     match entries {
         [entry] => {
             entry.provider() == b"ns".as_slice()
-                && entry.info() == known_info().as_slice()
+                && entry.info() == KNOWN_INFO.as_slice()
                 && entry.cipher() == cipher.as_slice()
         }
         _ => false,
@@ -162,32 +104,22 @@ fn is_known_wrap(wrapped: &Wrapped, cipher: &[u8; 48]) -> bool {
     *wrapped.key().bytes() == DATA_KEY && are_known(wrapped.entries(), cipher)
 }
 
-/// Whether a keyring makes that wrap over this context.
-fn wraps_over<K: Keyring>(
-    alloc: Global,
-    keyring: &mut K,
-    context: &Context,
-    cipher: &[u8; 48],
-) -> bool {
+/// Whether a keyring draws the data key and makes the one entry of this ciphertext.
+pub(crate) fn wraps<K: Keyring>(alloc: Global, keyring: &mut K, cipher: &[u8; 48]) -> bool {
+    let Some(context) = context_of(alloc, &TENANT) else {
+        return false;
+    };
     if keyring.wraps() != 1 {
         return false;
     }
-    match keyring.on_encrypt(alloc, context, &RANDOM, None) {
+    match keyring.on_encrypt(alloc, &context, &RANDOM, None) {
         Ok(wrapped) => is_known_wrap(&wrapped, cipher),
         Err(_) => false,
     }
 }
 
-/// Whether a keyring draws the data key and makes the one entry of this ciphertext.
-pub(crate) fn wraps<K: Keyring>(alloc: Global, keyring: &mut K, cipher: &[u8; 48]) -> bool {
-    match context_of(alloc, &TENANT) {
-        Some(context) => wraps_over(alloc, keyring, &context, cipher),
-        None => false,
-    }
-}
-
 /// Whether the answer is the data key, or no key. None where it is an error or another key.
-pub(crate) fn found(answer: Result<Option<DataKey>, RingError>) -> Option<bool> {
+fn found(answer: Result<Option<DataKey>, RingError>) -> Option<bool> {
     match answer {
         Ok(Some(key)) if *key.bytes() == DATA_KEY => Some(true),
         Ok(None) => Some(false),

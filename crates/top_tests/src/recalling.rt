@@ -1,9 +1,9 @@
 //! A manager that keeps what it gave last. What a manager says of its last answer may always be so;
 //! of this one it isn't.
 
-use crate::asking::gives_known;
+use crate::asking::Ask::Gives;
+use crate::asking::{Ask, are_answered, known_manager};
 use crate::caching::behind_a_cache;
-use crate::opening::known_manager;
 use cmm_caching::CachingCmm;
 use cmm_default::DefaultCmm;
 use keyring_trait::{
@@ -80,30 +80,6 @@ impl<M: Manager> Manager for Recalling<M> {
     }
 }
 
-/// The recalling manager behind a cache, whose entries serve for ten seconds.
-fn cached_over(alloc: Global, manager: DefaultCmm<RawAes>) -> Option<Cached> {
-    let inner = Recalling {
-        manager,
-        gave: None,
-        found: None,
-    };
-    behind_a_cache(alloc, inner)
-}
-
-/// A new one.
-fn new_cached(alloc: Global) -> Option<Cached> {
-    match known_manager(alloc) {
-        Some(manager) => cached_over(alloc, manager),
-        None => None,
-    }
-}
-
-/// Whether a manager with a cache makes an entry at second 2, and serves the same request so at
-/// this moment.
-fn is_asked_twice<M: Manager>(alloc: Global, manager: &mut M, now: u64, served: Served) -> bool {
-    gives_known(alloc, manager, 2, Served::New(1)) && gives_known(alloc, manager, now, served)
-}
-
 /// Whether this moment was recalled.
 fn is_moment(gave: Option<Recalled>, moment: u64) -> bool {
     match gave {
@@ -112,15 +88,35 @@ fn is_moment(gave: Option<Recalled>, moment: u64) -> bool {
     }
 }
 
-/// Whether the manager behind a cache recalls this moment once it was asked twice.
-fn recalls(alloc: Global, mut manager: Cached, now: u64, served: Served, moment: u64) -> bool {
-    is_asked_twice(alloc, &mut manager, now, served) && is_moment(manager.into_inner().gave, moment)
+/// Whether a manager with a cache answers so, and the one behind it recalls this moment then.
+fn recalls(alloc: Global, mut cache: Cached, asks: &[Ask], moment: u64) -> bool {
+    are_answered(alloc, &mut cache, asks) && is_moment(cache.into_inner().gave, moment)
 }
+
+/// Whether a recalling manager of the known key does, behind a new cache.
+fn new_one_recalls(alloc: Global, asks: &[Ask], moment: u64) -> bool {
+    let Some(manager) = known_manager(alloc) else {
+        return false;
+    };
+    let recalling = Recalling {
+        manager,
+        gave: None,
+        found: None,
+    };
+    match behind_a_cache(alloc, recalling) {
+        Some(cache) => recalls(alloc, cache, asks, moment),
+        None => false,
+    }
+}
+
+/// A request that the cache serves again.
+static SERVED_AGAIN: [Ask; 2] = [Gives(2, Served::New(1)), Gives(9, Served::Hit(1))];
+
+/// One that the manager behind it is asked again.
+static ASKED_AGAIN: [Ask; 2] = [Gives(2, Served::New(1)), Gives(12, Served::New(2))];
 
 #[test]
 fn the_manager_behind_a_cache_recalls_what_it_was_asked(rt: HostRuntime) {
-    let served_again = new_cached(rt.alloc()).expect(&rt, "memory");
-    assert!(rt; recalls(rt.alloc(), served_again, 9, Served::Hit(1), 2));
-    let asked_again = new_cached(rt.alloc()).expect(&rt, "memory");
-    assert!(rt; recalls(rt.alloc(), asked_again, 12, Served::New(2), 12));
+    assert!(rt; new_one_recalls(rt.alloc(), &SERVED_AGAIN, 2));
+    assert!(rt; new_one_recalls(rt.alloc(), &ASKED_AGAIN, 12));
 }

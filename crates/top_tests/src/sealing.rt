@@ -2,120 +2,117 @@
 //! texts come to in any pieces, and when each frame is given, is shown by the program of cases over
 //! codecs.
 
-use crate::asking::{request_of, sealed};
-use crate::known_wraps::known_ring;
-use cmm_default::DefaultCmm;
+use crate::asking::{known_manager, request_of, sealed};
 use esdk_fields::Refusal;
-use keyring_trait::{EncMaterials, EncRequest};
+use keyring_trait::EncMaterials;
 use std::alloc::Global;
 use stream_seal::{SealError, Sealer};
 
-/// The materials that the default manager of the known key gives at a request.
-fn materials_at(alloc: Global, request: &EncRequest) -> Option<EncMaterials> {
-    match known_ring(alloc) {
-        Some(ring) => sealed(alloc, &mut DefaultCmm::new(ring), request, 0),
-        None => None,
-    }
+/// A call of a sealer, and what it comes to.
+enum Call {
+    /// A step over this piece uses so many bytes, and gives so many.
+    Steps(&'static [u8], usize, usize),
+    /// A step is refused as over three bytes (Q10), and gives nothing.
+    IsOverThree,
+    /// The end gives so many bytes.
+    Ends(usize),
+    /// A step and the end are answered as stopped before, and give nothing.
+    IsStopped,
 }
 
-/// The materials of a request without pairs.
+/// The materials of a request without pairs. None where memory runs out.
 fn materials(alloc: Global) -> Option<EncMaterials> {
+    let mut manager = known_manager(alloc)?;
     match request_of(alloc, &[]) {
-        Some(request) => materials_at(alloc, &request),
-        None => None,
-    }
-}
-
-/// A sealer that has begun a message with these materials, in frames of 4 bytes.
-fn begun_with(alloc: Global, materials: &EncMaterials, declared: Option<u64>) -> Option<Sealer> {
-    match Sealer::begin(alloc, materials, declared, 4, Some(1), &[0x22; 32]) {
-        Ok(sealer) => Some(sealer),
-        Err(_) => None,
-    }
-}
-
-/// A sealer that has begun a message, of which so many bytes are declared, in frames of 4 bytes.
-fn begun(alloc: Global, declared: Option<u64>) -> Option<Sealer> {
-    match materials(alloc) {
-        Some(materials) => begun_with(alloc, &materials, declared),
+        Some(request) => sealed(alloc, &mut manager, &request, 0),
         None => None,
     }
 }
 
 /// Whether a step uses so many bytes of its piece and gives so many.
-fn gives(sealer: &mut Sealer, piece: &[u8], used: usize, given: usize) -> bool {
+fn steps(sealer: &mut Sealer, piece: &[u8], used: usize, given: usize) -> bool {
     match sealer.step(piece) {
         Ok(count) => count == used && sealer.out().len() == given,
         Err(_) => false,
     }
 }
 
-/// The sealer was stopped before.
-fn is_stop(error: &SealError) -> bool {
-    matches!(error, SealError::Stopped)
+/// Whether a step is refused as over three bytes, and gives nothing.
+fn is_over_three(sealer: &mut Sealer) -> bool {
+    matches!(
+        sealer.step(b"4"),
+        Err(SealError::Refusal(Refusal::OverDeclared(3)))
+    ) && sealer.out().is_empty()
 }
 
-/// Whether a step is stopped, and gives nothing.
-fn step_is_stopped(sealer: &mut Sealer) -> bool {
-    match sealer.step(b"1") {
-        Ok(_) => false,
-        Err(error) => is_stop(&error) && sealer.out().is_empty(),
-    }
-}
-
-/// Whether the end is stopped, and gives nothing.
-fn end_is_stopped(sealer: &mut Sealer) -> bool {
-    match sealer.finish() {
-        Ok(()) => false,
-        Err(error) => is_stop(&error) && sealer.out().is_empty(),
-    }
-}
-
-/// Whether a step and an end are stopped.
+/// Whether a step and the end are answered as stopped before, and give nothing.
 fn is_stopped(sealer: &mut Sealer) -> bool {
-    step_is_stopped(sealer) && end_is_stopped(sealer)
+    matches!(sealer.step(b"1"), Err(SealError::Stopped))
+        && sealer.out().is_empty()
+        && matches!(sealer.finish(), Err(SealError::Stopped))
+        && sealer.out().is_empty()
 }
 
-/// Whether the end gives a frame of one byte, and stops the sealer.
-fn ends(sealer: &mut Sealer) -> bool {
-    sealer.finish().is_ok() && sealer.out().len() == 41 && is_stopped(sealer)
+/// Whether a call comes to that.
+fn comes_to(sealer: &mut Sealer, call: &Call) -> bool {
+    match call {
+        Call::Steps(piece, used, given) => steps(sealer, piece, *used, *given),
+        Call::IsOverThree => is_over_three(sealer),
+        Call::Ends(given) => sealer.finish().is_ok() && sealer.out().len() == *given,
+        Call::IsStopped => is_stopped(sealer),
+    }
 }
 
-/// Whether a frame is given once a byte comes behind it, which isn't taken then, and a step over no
-/// bytes uses and gives none.
-fn steps_end_with_a_frame(sealer: &mut Sealer) -> bool {
-    gives(sealer, b"12345", 4, 0)
-        && gives(sealer, b"", 0, 0)
-        && gives(sealer, b"5", 0, 36)
-        && gives(sealer, b"5", 1, 0)
+/// Whether each call comes to that.
+fn come_to(sealer: &mut Sealer, calls: &[Call]) -> bool {
+    for call in calls {
+        if !comes_to(sealer, call) {
+            return false;
+        }
+    }
+    true
 }
+
+/// Whether each call comes to that of a sealer that has begun a message with these materials, of
+/// which so many bytes are declared, in frames of 4 bytes.
+fn begun_come_to(
+    alloc: Global,
+    materials: &EncMaterials,
+    declared: Option<u64>,
+    calls: &[Call],
+) -> bool {
+    match Sealer::begin(alloc, materials, declared, 4, Some(1), &[0x22; 32]) {
+        Ok(mut sealer) => come_to(&mut sealer, calls),
+        Err(_) => false,
+    }
+}
+
+/// A frame is given once a byte comes behind it, which isn't taken then, and a step over no bytes
+/// uses and gives none. The end gives a frame of one byte, and stops the sealer.
+static STEPS: [Call; 6] = [
+    Call::Steps(b"12345", 4, 0),
+    Call::Steps(b"", 0, 0),
+    Call::Steps(b"5", 0, 36),
+    Call::Steps(b"5", 1, 0),
+    Call::Ends(41),
+    Call::IsStopped,
+];
 
 #[test]
 fn a_step_uses_a_piece_up_to_the_end_of_a_frame(rt: HostRuntime) {
-    let mut sealer = begun(rt.alloc(), None).expect(&rt, "memory");
-    assert!(rt; steps_end_with_a_frame(&mut sealer) && ends(&mut sealer));
+    let materials = materials(rt.alloc()).expect(&rt, "memory");
+    assert!(rt; begun_come_to(rt.alloc(), &materials, None, &STEPS));
 }
 
-/// The error is Q10 with the number 3.
-fn is_over_three(error: &SealError) -> bool {
-    matches!(error, SealError::Refusal(Refusal::OverDeclared(3)))
-}
-
-/// Whether a step is refused as over three bytes, and gives nothing.
-fn step_is_refused(sealer: &mut Sealer) -> bool {
-    match sealer.step(b"4") {
-        Ok(_) => false,
-        Err(error) => is_over_three(&error) && sealer.out().is_empty(),
-    }
-}
-
-/// Whether the byte after three declared ones is refused, and stops a sealer.
-fn stops(sealer: &mut Sealer) -> bool {
-    gives(sealer, b"1234", 3, 0) && step_is_refused(sealer) && is_stopped(sealer)
-}
+/// Four bytes, of which three were declared.
+static ONE_MORE: [Call; 3] = [
+    Call::Steps(b"1234", 3, 0),
+    Call::IsOverThree,
+    Call::IsStopped,
+];
 
 #[test]
 fn a_byte_more_than_declared_stops_the_sealer(rt: HostRuntime) {
-    let mut sealer = begun(rt.alloc(), Some(3)).expect(&rt, "memory");
-    assert!(rt; stops(&mut sealer));
+    let materials = materials(rt.alloc()).expect(&rt, "memory");
+    assert!(rt; begun_come_to(rt.alloc(), &materials, Some(3), &ONE_MORE));
 }
