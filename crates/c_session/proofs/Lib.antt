@@ -9,5 +9,4 @@ mod Sealings
 mod Sessions
 mod Trays
 mod Trees
-mod Waitings
 mod Wholes

@@ -29,7 +29,7 @@ use Rattle.stream_open.proofs.PieceEnds.{whole_none}
 use Rattle.c_session.specs.declared.reason.Reason.TheVariants as reasons
 use Rattle.c_session.specs.Opening.{BreaksOff, SessionOpens, OpensEnd, SessionOpensPiece, SessionReleases, unopened_as}
 use Rattle.c_session.specs.Sealing.{IsFrontOf}
-use Rattle.c_session.specs.Waiting.{GathersFront}
+use Rattle.session_parts.specs.Waiting.{GathersFront}
 use Rattle.c_session.proofs.Sealings.{behind, front_behind}
 
 pub opens_first : {M : Type 0} (state : M → ManagerNow) (manager : M) (opener : Opener) (settings : Settings) (pairs : List KeyValue)

@@ -9,7 +9,8 @@ use Rattle.extract_core.specs.declared.errors.ExtractError.{ExtractError}
 use Rattle.extract_core.specs.declared.errors.ExtractError.TheVariants as extracts
 use Rattle.extract_core.specs.Extract.{ExtractEnds, Extracts}
 use Rattle.extract_core.specs.Extracted.{ByteRange}
-use Rattle.c_session.specs.Handed.{AgreesSoFar, HandedPart, HasHanded, notes_of, the_message}
+use Rattle.session_parts.specs.Handed.{HandedPart, HasHanded, notes_of, the_message}
+use Rattle.c_session.specs.MessageShelf.{AgreesSoFar}
 use Rattle.c_session.specs.declared.no_range.NoRange.{NoRange}
 use Rattle.c_session.specs.declared.no_range.NoRange.TheVariants as errors
 use Rattle.c_session.specs.declared.reason.Reason.TheVariants as reasons

@@ -78,12 +78,6 @@ module _ (opened opening : ManagerNow) (old next : Resealer) (v : ResealingValue
       → ResealerSteps opened opening saying 0 v piece before after unasked unwritten result next → ResealerIsReady next wraps
   ready_then wraps drawn result s = after_step wraps drawn result (opening_stepped v.opening piece s.opens.heard s.answer) s.answer s.seals
 
--- one that has taken nothing
-pub ready_new : (resealer : Resealer) (settings : Settings) (pairs : List KeyValue) (size : ℕ) (random : List ℕ) (wraps : ℕ)
-    → Stands resealer (new_resealing_session settings pairs size random) → length random ≡ 64 + 12 * wraps → ResealerIsReady resealer wraps
-ready_new resealer settings pairs size random wraps stands drawn =
-    ready_on resealer resealer (new_resealing_session settings pairs size random) (new_resealing_session settings pairs size random) wraps drawn stands refl refl
-
 -- one that made a step
 pub ready_step : (opened opening : ManagerNow) (saying : Saying) (old next : Resealer) (piece : List ℕ) (before after : SinkState) (unasked unwritten : Type 0) (wraps more : ℕ)
     → more ≡ wraps → ResealerIsReady old wraps → (result : Result ℕ ResealError)

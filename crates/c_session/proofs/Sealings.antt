@@ -13,7 +13,7 @@ use Rattle.stream_seal.specs.Session.{SealingValue, beginning, sealing_finished,
 use Rattle.stream_seal.specs.Stands.{Stands}
 use Rattle.stream_seal.proofs.Feeding.{begin_fed, feeds, finishes}
 use Rattle.c_session.specs.Sealing.{IsFrontOf, Seals, SealsEnd, SessionSealsPiece, whole_message, unsealed_as}
-use Rattle.c_session.specs.Waiting.{GathersFront}
+use Rattle.session_parts.specs.Waiting.{GathersFront}
 
 -- a message begins: its header waits
 pub seals_first : (m : EncMaterialsValue) (declared : Option ℕ) (size : ℕ) (id : List ℕ)

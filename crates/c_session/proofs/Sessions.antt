@@ -19,7 +19,7 @@ use Rattle.c_session.specs.Opening.{OpensEnd}
 use Rattle.c_session.specs.Resealing.{HowResealed, ResealsEnd, SessionReseals, how_asked}
 use Rattle.c_session.specs.Sealing.{SealsEnd}
 use Rattle.c_session.specs.Session.{BeginsSealing, SessionEnds, SessionFeeds, HandsOutOf, OpensLast, OpensMore, OpensNow, ResealsLast, ResealsMore, ResealsNow, SealsBy, SealsLast, SealsMore, SealsNow, asked, going_answer, session_request, setting_answer, settled_session, settled_answer, with_its_keys}
-use Rattle.c_session.specs.Waiting.{HandsOut}
+use Rattle.session_parts.specs.Waiting.{HandsOut}
 
 pub none_of : (o : Option Answer) → ((a : Answer) → o ≡ Some a → ⊥) → o ≡ None
 none_of None no_answer = refl

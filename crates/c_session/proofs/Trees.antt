@@ -5,7 +5,7 @@ use Rattle.std.proofs.lemmas.Bool.{le-ltb}
 use Rattle.std.proofs.lemmas.List.{length-map, map-append}
 use Rattle.context_codec.specs.Context.{KeyValue}
 use Rattle.header_codec.specs.Header.{HeaderValue}
-use Rattle.keyring_trait.specs.Keyring.{KeyringGoes, KeyringMeaning}
+use Rattle.keyring_trait.specs.Keyring.{KeyringMeaning}
 use Rattle.keyring_trait.specs.Wrapping.{WrapKeyValue}
 use Rattle.raw_aes_keyring.specs.Keyring.{raw_meaning}
 use Rattle.multi_keyring.specs.declared.tree.Node.TheVariants.{Raw, Handed, Multi}
@@ -136,6 +136,3 @@ has_few bytes plugs tree none read =
       told = told.1;
       few = omega (arith, as_many tree told.0 told.1, leaves_few of_raw raw_meaning bytes plugs tree room read);
     }
-
-pub keeps_few : (old new : Tree) → KeyringGoes (tree_meaning raw_meaning old) (tree_meaning raw_meaning new) → HasFew old → HasFew new
-keeps_few old new goes has = record { keys = has.keys; told = goes.keys ∙ has.told; few = has.few }

@@ -2,9 +2,8 @@ pub mod Answer
 pub mod Asking
 pub mod Beginning
 pub mod Front
-pub mod Handed
-pub mod Limits
 pub mod Machine
+pub mod MessageShelf
 pub mod NewKeys
 pub mod NoRange
 pub mod Opening
@@ -17,5 +16,6 @@ pub mod Span
 pub mod FileSession
 pub mod FileTree
 pub mod Telling
-pub mod Waiting
-pub mod WaitingLaws
+pub use Rattle.session_parts.specs.Handed
+pub use Rattle.session_parts.specs.Limits
+pub use Rattle.session_parts.specs.Waiting

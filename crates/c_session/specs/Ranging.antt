@@ -23,8 +23,8 @@ use Rattle.c_session.specs.declared.no_range.NoRange.TheVariants as errors
 use Rattle.c_session.specs.declared.reason.Reason.TheVariants as reasons
 use Rattle.c_session.specs.declared.session.Session.{Session}
 use Rattle.c_session.specs.FileTree.{Tree, file_state}
-use Rattle.c_session.specs.Handed.{HandedPart, HasHanded}
-use Rattle.c_session.specs.Limits.{reader_settings}
+use Rattle.session_parts.specs.Handed.{HandedPart, HasHanded}
+use Rattle.session_parts.specs.Limits.{reader_settings}
 use Rattle.c_session.specs.Session.{asked, setting_answer, with_its_keys}
 
 -- ---- of a message

@@ -36,7 +36,7 @@ use Rattle.c_session.specs.Opening.{SessionOpens, OpensEnd, SessionOpensPiece, S
 use Rattle.c_session.specs.Resealing.{HowResealed, ResealsEnd, ResealsNoMore, ResealsWhole}
 use Rattle.c_session.specs.Resealing.{SessionReseals, how_asked}
 use Rattle.c_session.specs.Sealing.{Seals, SealsEnd, SessionSealsPiece, whole_message}
-use Rattle.c_session.specs.Waiting.{HandsOut}
+use Rattle.session_parts.specs.Waiting.{HandsOut}
 
 -- what the manager with its required keys is at a moment
 abbrev pub asked : {M : Type 0} → (M → ManagerNow) → M × List (List ℕ) → ManagerNow

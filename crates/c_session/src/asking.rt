@@ -58,6 +58,7 @@ pub(crate) fn ask_session(
         Err(reason) => return (Err(NoAnswer::Reason(reason)), session),
     };
     let (asked, session) = ask_leaves(alloc, session, &header);
+    drop(header);
     match asked {
         Ok(openers) => (Ok(openers), session),
         Err(reason) => (Err(NoAnswer::Reason(reason)), session),
@@ -73,17 +74,9 @@ fn ask_leaves(
 ) -> (Result<Openers, Reason>, TreeSession)
     ensures { SessionAsksAbout session result.1 header.now result.0 }
 {
+    let mut session = session;
     let mut tree = session.manager.into_inner().into_ring();
     let asked = tree.openers(alloc, header, &session.pairs);
-    let session = Session {
-        manager: RequiredCmm::new(DefaultCmm::new(tree), KeySet::new(alloc)),
-        pairs: session.pairs,
-        required: session.required,
-        machine: session.machine,
-        sealing: session.sealing,
-        waiting: session.waiting,
-        ended: session.ended,
-        reason: session.reason,
-    };
+    session.manager = RequiredCmm::new(DefaultCmm::new(tree), KeySet::new(alloc));
     (asked, session)
 }

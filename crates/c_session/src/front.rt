@@ -2,11 +2,11 @@
 
 ghost use Rattle.c_session.specs.Front.{ListsHeaderFront, ReadsHeaderFront};
 
-use crate::limits::settings;
 use crate::reason::Reason;
 use esdk_fields::{Blob, Fault, Stop};
 use esdk_list::list_text;
 use header_codec::{Header, Settings, header_in};
+use session_parts::settings;
 use std::alloc::Global;
 
 /// The listing of the header that the bytes begin with: the lines that the program's `list` prints.

@@ -8,8 +8,8 @@ use crate::opening::OpenMachine;
 use crate::reason::Reason;
 use crate::resealing::ResealMachine;
 use crate::sealing::{end_sealer, feed_sealer};
-use crate::waiting::Waiting;
 use keyring_trait::Manager;
+use session_parts::Waiting;
 use std::alloc::Global;
 use stream_seal::Sealer;
 

@@ -2,12 +2,13 @@
 
 ghost use Rattle.std.specs.Prelude.{◌≡◌, ◌≤◌, ◌∷◌, [], ◌++◌, None, IfSome};
 ghost use Rattle.esdk_fields.specs.Counts.{Rose};
-ghost use Rattle.c_session.specs.Handed.{AgreesSoFar, FillsRoom, HandedPart, end_note, handed_of};
-ghost use Rattle.c_session.specs.Handed.{notes_of};
+ghost use Rattle.session_parts.specs.Handed.{HandedPart, end_note, handed_of};
+ghost use Rattle.c_session.specs.MessageShelf.{AgreesSoFar, FillsRoom};
+ghost use Rattle.session_parts.specs.Handed.{notes_of};
 
-use crate::handed_bytes::{HandedBytes, left_at};
 use esdk_base::{Failed, Readers, Shelf};
 use esdk_seen::{Call, SeenCalls};
+use session_parts::{HandedBytes, left_at};
 use std::alloc::AllocError;
 use std::marker::Model;
 
@@ -28,7 +29,8 @@ pub(crate) struct MessageShelf<'a> {
 impl<'a> Model for MessageShelf<'a> {
     ghost use Rattle.std.specs.Coded.{codes};
     ghost use Rattle.esdk_seen.specs.Calls.{calls_code};
-    ghost use Rattle.c_session.specs.Handed.{AgreesSoFar, ShelfNow, handed_of};
+    ghost use Rattle.session_parts.specs.Handed.{handed_of};
+    ghost use Rattle.c_session.specs.MessageShelf.{AgreesSoFar, ShelfNow};
 
     ghost Value = { ShelfNow };
 

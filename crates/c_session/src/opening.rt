@@ -11,11 +11,11 @@ ghost use Rattle.stream_open.specs.Stands.{Stands};
 ghost use Rattle.c_session.specs.Opening.{SessionOpens, OpensEnd, SessionOpensPiece, unopened_as};
 
 use crate::reason::Reason;
-use crate::waiting::Waiting;
 use context_codec::Context;
 use esdk_base::FeedError;
 use header_codec::Settings;
 use keyring_trait::Manager;
+use session_parts::{Waiting, open_piece};
 use std::alloc::{AllocError, Global};
 use std::marker::Model;
 use stream_open::{OpenError, Opener};
@@ -47,8 +47,10 @@ impl OpenMachine {
     ) -> OpenMachine
         ensures { SessionOpens M.state manager.now manager.now result [] settings given [] [] }
     {
+        // What is known of a manager that isn't asked yet, `wraps` says.
+        let _wraps = manager.wraps();
         OpenMachine {
-            opener: begin_opener(alloc, manager, settings, given),
+            opener: Opener::new(alloc, settings, given),
         }
     }
 
@@ -88,21 +90,6 @@ impl OpenMachine {
     }
 }
 
-/// An opener that has taken nothing, with these limits and given pairs.
-fn begin_opener<M: Manager>(
-    alloc: Global,
-    manager: &M,
-    settings: Settings,
-    given: Context,
-) -> Opener
-    ensures opens { SessionOpens M.state manager.now manager.now result [] settings given [] [] }
-    ensures session { OpenerHasSession result }
-{
-    // What is known of a manager that isn't asked yet, `wraps` says.
-    let _wraps = manager.wraps();
-    Opener::new(alloc, settings, given)
-}
-
 /// Takes a piece of the message. The content that it releases waits.
 fn feed_opener<M: Manager>(
     alloc: Global,
@@ -121,7 +108,7 @@ fn feed_opener<M: Manager>(
     ensures session { OpenerHasSession opener.new }
     ensures went { Went (M.state manager.old) (M.state manager.new) }
 {
-    match opener.feed(alloc, manager, 0, piece, waiting) {
+    match open_piece(alloc, manager, opener, waiting, piece) {
         Ok(()) => Ok(()),
         Err(error) => Err(unopened(error)),
     }

@@ -5,22 +5,20 @@ ghost use Rattle.std.specs.Prelude.{◌≡◌, ◌≤◌, ◌^◌};
 ghost use Rattle.esdk_decrypt.specs.Decrypt.{asked_from};
 ghost use Rattle.keyring_trait.specs.Manager.{Went};
 ghost use Rattle.extract_core.specs.Extract.{range_of};
-ghost use Rattle.c_session.specs.Handed.{handed_of};
+ghost use Rattle.session_parts.specs.Handed.{handed_of};
 ghost use Rattle.c_session.specs.Ranging.{RangeComes, RangesSession, TakesRange, unextracted_as};
 
 use crate::asking::TreeSession;
 use crate::gathered::Gathered;
-use crate::handed_bytes::HandedBytes;
 use crate::message_shelf::{MESSAGE, MessageShelf};
 use crate::no_range::NoRange;
 use crate::reason::Reason;
-use crate::session::Session;
-use cmm_required::RequiredCmm;
 use context_codec::{Context, KeySet};
 use esdk_fields::{Blob, Outside};
 use extract_core::{ExtractError, extract};
 use header_codec::Settings;
 use keyring_trait::Manager;
+use session_parts::{HandedBytes, requiring};
 use std::alloc::Global;
 
 /// No range begins behind so many bytes, or has more.
@@ -67,7 +65,8 @@ fn take_range(
     ensures { TakesRange session result.1 (session.manager.0, keys) (handed_of bytes.entry) settings
         (range_of at count) result.0 }
 {
-    let mut manager = RequiredCmm::new(session.manager.into_inner(), keys);
+    let mut session = session;
+    let mut manager = requiring(session.manager, keys);
     let came = extract_handed(
         alloc,
         &mut manager,
@@ -77,16 +76,7 @@ fn take_range(
         at,
         count,
     );
-    let session = Session {
-        manager: RequiredCmm::new(manager.into_inner(), KeySet::new(alloc)),
-        pairs: session.pairs,
-        required: session.required,
-        machine: session.machine,
-        sealing: session.sealing,
-        waiting: session.waiting,
-        ended: session.ended,
-        reason: session.reason,
-    };
+    session.manager = requiring(manager, KeySet::new(alloc));
     (came, session)
 }
 

@@ -14,11 +14,11 @@ ghost use Rattle.c_session.specs.Resealing.{SessionReseals, how_asked, unreseale
 
 use crate::reason::Reason;
 use crate::tray::Tray;
-use crate::waiting::Waiting;
 use context_codec::Context;
 use header_codec::Settings;
 use keyring_trait::Manager;
 use reseal_core::{ResealError, Resealer};
+use session_parts::Waiting;
 use std::alloc::{AllocError, Global};
 use std::marker::Model;
 use std::mem;

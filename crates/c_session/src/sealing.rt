@@ -7,9 +7,9 @@ ghost use Rattle.c_session.specs.Sealing.{SealsNot, Seals, SealsEnd, SessionSeal
 ghost use Rattle.c_session.specs.Sealing.{unsealed_as};
 
 use crate::reason::Reason;
-use crate::waiting::Waiting;
 use esdk_base::{FeedError, Receiver};
 use keyring_trait::EncMaterials;
+use session_parts::Waiting;
 use std::alloc::{AllocError, Global};
 use stream_seal::{SealError, Sealer};
 
@@ -41,7 +41,10 @@ pub(crate) fn begin_sealer(
     ) {
         Ok(sealer) => match waiting.take(sealer.header()) {
             Ok(()) => Ok(sealer),
-            Err(_) => Err(Reason::Memory),
+            Err(_) => {
+                drop(sealer);
+                Err(Reason::Memory)
+            }
         },
         Err(error) => Err(unsealed(FeedError::Machine(error))),
     }

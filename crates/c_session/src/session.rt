@@ -16,11 +16,11 @@ use crate::opening::OpenMachine;
 use crate::placing::put;
 use crate::reason::Reason;
 use crate::resealing::ResealMachine;
-use crate::waiting::Waiting;
 use cmm_required::RequiredCmm;
 use context_codec::{Context, KeySet, PairError};
 use header_codec::Settings;
-use keyring_trait::{EncRequest, Manager};
+use keyring_trait::Manager;
+use session_parts::{Waiting, end_for, requiring};
 use std::alloc::Global;
 use std::mem;
 
@@ -74,16 +74,10 @@ impl<M: Manager> Session<M> {
           required = [];
         } }
     {
-        Session {
-            manager: RequiredCmm::new(self.manager.into_inner(), self.required),
-            pairs: self.pairs,
-            required: KeySet::new(alloc),
-            machine: self.machine,
-            sealing: self.sealing,
-            waiting: self.waiting,
-            ended: self.ended,
-            reason: self.reason,
-        }
+        let mut session = self;
+        session.manager = requiring(session.manager, session.required);
+        session.required = KeySet::new(alloc);
+        session
     }
 
     /// Why a call that sets it up doesn't fit, if it doesn't.
@@ -128,8 +122,7 @@ impl<M: Manager> Session<M> {
         ensures session { self.new ≡ ended_for self.old reason }
         ensures answer { result ≡ Failed }
     {
-        self.ended = true;
-        put(&mut self.reason, Some(reason));
+        end_for(&mut self.ended, &mut self.reason, reason);
         Answer::Failed
     }
 
@@ -220,11 +213,11 @@ impl<M: Manager> Session<M> {
     {
         put(&mut self.waiting, Waiting::new(alloc));
         let pairs = mem::replace(&mut self.pairs, Context::new(alloc));
-        let request = EncRequest::new(alloc, pairs, declared);
         match begin_message(
             alloc,
             &mut self.manager,
-            &request,
+            pairs,
+            declared,
             frame_length,
             max_keys,
             random,

@@ -1,16 +1,16 @@
 //! Where the bytes of a message stand that hold a range of its text.
 
-ghost use Rattle.std.specs.Prelude.{◌≡◌, ◌≤◌, ◌^◌, IfNone, IfSome};
+ghost use Rattle.std.specs.Prelude.{◌≡◌, ◌≤◌, ◌+◌, ◌*◌, ◌^◌, IfNone, IfSome};
 ghost use Rattle.esdk_fields.specs.declared.contents.Content.TheVariants.{Framed};
 ghost use Rattle.header_codec.specs.Header.{IsContent};
 ghost use Rattle.extract_core.specs.Extract.{body_begin, range_of};
 ghost use Rattle.c_session.specs.Span.{IsSpan, IsTooFar, SpansFront};
 
 use crate::front::front_of;
-use crate::limits::settings;
 use crate::no_range::NoRange;
 use esdk_fields::Content;
 use header_codec::Header;
+use session_parts::{frames_of, settings};
 use std::alloc::Global;
 use suite_table::Suite;
 
@@ -75,7 +75,9 @@ pub fn front_span(
         Ok(header) => header,
         Err(reason) => return Err(NoRange::Reason(reason)),
     };
-    match span_of(begin_of(&header), header.content(), at, count) {
+    let spanned = span_of(begin_of(&header), header.content(), at, count);
+    drop(header);
+    match spanned {
         Some(span) => Ok(span),
         None => Err(NoRange::TooFar),
     }
@@ -83,7 +85,8 @@ pub fn front_span(
 
 /// Where the slots of a range stand in a message whose body begins there.
 fn span_of(begin: u64, content: Content, at: u64, count: u64) -> Option<Span>
-    requires { IsContent content }
+    requires content { IsContent content }
+    requires some { 1 ≤ count }
     ensures some { IfSome result (IsSpan begin content (range_of at count)) }
     ensures none { IfNone result (IsTooFar begin content (range_of at count)) }
 {
@@ -100,21 +103,30 @@ fn span_of(begin: u64, content: Content, at: u64, count: u64) -> Option<Span>
 
 /// The same of a message in frames of so many bytes.
 fn framed_span(begin: u64, frame: u32, at: u64, count: u64) -> Option<Span>
-    requires { 1 ≤ frame }
+    requires frame { 1 ≤ frame }
+    requires some { 1 ≤ count }
     ensures some { IfSome result (IsSpan begin (Framed frame) (range_of at count)) }
     ensures none { IfNone result (IsTooFar begin (Framed frame) (range_of at count)) }
 {
-    let text = u64::from(frame);
-    let width = text + BESIDE_TEXT;
-    let first = at / text;
-    let last = at.checked_add(count)?.checked_sub(1)? / text;
-    let slots = last.checked_add(1)?.checked_sub(first)?;
+    let (first, many) = frames_of(frame, at, count)?;
+    let width = u64::from(frame) + BESIDE_TEXT;
+    let offset = bytes_of(first, width, begin)?;
+    let length = bytes_of(many, width, MORE_AT_THE_END)?;
     Some(Span {
         header: begin,
         frame,
-        offset: first.checked_mul(width)?.checked_add(begin)?,
-        length: slots.checked_mul(width)?.checked_add(MORE_AT_THE_END)?,
+        offset,
+        length,
     })
+}
+
+/// How many bytes so many frames of this width have, with these beside them; none, where 64 bits
+/// can't tell it.
+fn bytes_of(frames: u64, width: u64, beside: u64) -> Option<u64>
+    ensures some { IfSome result (λ bytes. bytes ≡ frames * width + beside) }
+    ensures none { IfNone result (2 ^ 64 ≤ frames * width + beside) }
+{
+    frames.checked_mul(width)?.checked_add(beside)
 }
 
 /// Where the body begins behind a header.

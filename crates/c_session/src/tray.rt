@@ -2,8 +2,8 @@
 
 ghost use Rattle.std.specs.Prelude.{Some};
 
-use crate::waiting::Waiting;
 use esdk_base::{Failed, Receiver, Sink};
+use session_parts::Waiting;
 
 /// A sink to which what is put waits. It fails only where memory runs out.
 #[derive(Drop)]

@@ -3,8 +3,8 @@ use Rattle.std.proofs.Common.{◌≡◌, ◌∙◌, ℕ, true, false, List, Some
 use Rattle.std.specs.Prelude.{ℤ}
 use Rattle.c_session.specs.declared.file_session.FileSession.{FileSession}
 use Rattle.c_session.specs.declared.file_session.Kept.{Kept}
-use Rattle.esdk_c.specs.declared.handle.Handle.{Handle}
-use Rattle.esdk_c.specs.Handle.{HoldsSession}
+use Rattle.c_handle.specs.declared.handle.Handle.{Handle}
+use Rattle.c_handle.specs.Handle.{HoldsSession}
 use Rattle.esdk_c.specs.Asking.{AskedSo, AsksHandle, ShowsAll}
 
 module _ {E : Type 0} (old new : Handle) (code_of : E → ℕ) (asks : Kept → Kept → Result (List ℕ) E → Type 0) (room : List ℕ) (code : ℤ) (whole : ℕ)

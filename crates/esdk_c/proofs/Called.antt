@@ -4,9 +4,9 @@ use Rattle.std.specs.Prelude.{Bool, ℤ}
 use Rattle.c_session.specs.declared.answer.Answer.{Answer}
 use Rattle.c_session.specs.declared.file_session.FileSession.{FileSession}
 use Rattle.c_session.specs.declared.file_session.Kept.{Kept}
-use Rattle.esdk_c.specs.declared.handle.Handle.{Handle}
-use Rattle.esdk_c.specs.Calls.{CalledSo, CallsSession, CallGoesOn, HandsOutBy}
-use Rattle.esdk_c.specs.Handle.{HoldsSession}
+use Rattle.c_handle.specs.declared.handle.Handle.{Handle}
+use Rattle.c_handle.specs.Calls.{CalledSo, CallsSession, CallGoesOn, HandsOutBy}
+use Rattle.c_handle.specs.Handle.{HoldsSession}
 
 -- it held this session
 pub called_so : (old new : Handle) (code : ℤ) (call : Answer → Kept → Kept → Type 0) (taken : FileSession)

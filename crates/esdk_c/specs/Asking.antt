@@ -6,8 +6,8 @@ use Rattle.c_session.specs.declared.reason.Reason.{Reason}
 use Rattle.c_session.specs.Front.{ListsHeaderFront}
 use Rattle.c_session.specs.Reason.{code_of_reason}
 use Rattle.c_session.specs.Telling.{Shows}
-use Rattle.esdk_c.specs.declared.handle.Handle.{Handle}
-use Rattle.esdk_c.specs.Handle.{HoldsSession}
+use Rattle.c_handle.specs.declared.handle.Handle.{Handle}
+use Rattle.c_handle.specs.Handle.{HoldsSession}
 
 -- What came is shown, and the code is 0. Or nothing came: the code says why, the number is 0, and
 -- the room is as it was.

@@ -3,8 +3,7 @@
 ghost use Rattle.c_session.specs.Asking.{AsksOpeners, no_answer_code};
 ghost use Rattle.esdk_c.specs.Asking.{AsksHandle, ListsInto};
 
-use crate::handle::Handle;
-use crate::taking::NO_SESSION;
+use c_handle::{Handle, NO_SESSION};
 use c_session::{front_text, show, show_numbers};
 use std::alloc::Global;
 
@@ -33,7 +32,10 @@ pub extern "C" fn esdk_list(
         }
         Err(reason) => {
             *whole = 0;
-            reason.code() as i32
+            let code = reason.code() as i32;
+            // By a call, so that no proof here writes out how its parts are dropped.
+            drop(reason);
+            code
         }
     }
 }
@@ -72,7 +74,9 @@ pub extern "C" fn esdk_openers(
         }
         Err(error) => {
             *whole = 0;
-            error.code() as i32
+            let code = error.code() as i32;
+            drop(error);
+            code
         }
     }
 }

@@ -1,17 +1,15 @@
 //! The calls that go on with a message.
 
-ghost use Rattle.std.specs.Prelude.{◌≡◌, false, not, pos};
+ghost use Rattle.std.specs.Prelude.{◌≡◌, false, not};
 ghost use Rattle.c_session.specs.declared.answer.Answer.TheVariants.{Done};
 ghost use Rattle.c_session.specs.Answer.{is_callers, is_done_answer};
 ghost use Rattle.c_session.specs.FileSession.{KeepsRead};
 ghost use Rattle.c_session.specs.FileTree.{file_state};
 ghost use Rattle.c_session.specs.Session.{SessionEnds, EndsWith, SessionFeeds};
-ghost use Rattle.esdk_c.specs.Calls.{CalledSo, CallsSession, CallGoesOn, HandsNothing, HandsOutBy};
-ghost use Rattle.esdk_c.specs.Handle.{HoldsNoSession};
+ghost use Rattle.c_handle.specs.Calls.{CallsSession, CallGoesOn, HandsNothing, HandsOutBy};
 
-use crate::handle::Handle;
-use crate::taking::{NO_SESSION, give_back};
-use c_session::{Answer, FileSession};
+use c_handle::{Handle, hand_out, no_session, silent_unless_done};
+use c_session::Answer;
 use std::alloc::Global;
 
 /// Takes a piece, and hands out of what waits.
@@ -87,7 +85,7 @@ pub extern "C" fn esdk_whole(
         return no_session(written, waits);
     };
     let answer = session.whole(alloc, rest);
-    let silent = !answer.is_done();
+    let silent = silent_unless_done(answer);
     hand_out(alloc, handle, session, answer, silent, room, written, waits)
 }
 
@@ -118,38 +116,4 @@ pub extern "C" fn esdk_take(
         written,
         waits,
     )
-}
-
-/// There is no session: nothing is handed out, and nothing waits.
-fn no_session(written: &mut usize, waits: &mut usize) -> i32
-    ensures code { result ≡ pos 2001 }
-    ensures written { written.new ≡ 0 }
-    ensures waits { waits.new ≡ 0 }
-{
-    *written = 0;
-    *waits = 0;
-    NO_SESSION
-}
-
-/// Hands out of what waits, unless nothing is to be handed out, and puts the session back.
-fn hand_out(
-    alloc: Global,
-    handle: &mut Handle,
-    mut session: Box<FileSession>,
-    answer: Answer,
-    silent: bool,
-    room: &mut [u8],
-    written: &mut usize,
-    waits: &mut usize,
-) -> i32
-    requires { HoldsNoSession handle.old }
-    ensures { CalledSo handle.new result (λ given old new. (given ≡ answer)
-        × HandsOutBy silent old new room.old written.new waits.new room.new) session.value }
-{
-    *written = 0;
-    if !silent {
-        *written = session.take(room);
-    }
-    *waits = session.waits();
-    give_back(alloc, handle, session, answer)
 }

@@ -6,8 +6,7 @@ ghost use Rattle.c_session.specs.Ranging.{AsksRange};
 ghost use Rattle.esdk_c.specs.Asking.{AsksHandle};
 ghost use Rattle.esdk_c.specs.Ranging.{SpansInto};
 
-use crate::handle::Handle;
-use crate::taking::NO_SESSION;
+use c_handle::{Handle, NO_SESSION, tell_span};
 use c_session::{HandedBytes, Span, front_span, show};
 use std::alloc::Global;
 
@@ -34,12 +33,14 @@ pub extern "C" fn esdk_span(
 {
     let (code, span) = match front_span(alloc, message, uncommitted, at, count) {
         Ok(span) => (0, span),
-        Err(error) => (error.code() as i32, Span::none()),
+        Err(error) => {
+            let code = error.code() as i32;
+            // By a call, so that no proof here writes out how its parts are dropped.
+            drop(error);
+            (code, Span::none())
+        }
     };
-    *header = span.header;
-    *frame = span.frame;
-    *offset = span.offset;
-    *size = span.length;
+    tell_span(span, header, frame, offset, size);
     code
 }
 
@@ -93,7 +94,9 @@ pub extern "C" fn esdk_range(
         }
         Err(error) => {
             *written = 0;
-            error.code() as i32
+            let code = error.code() as i32;
+            drop(error);
+            code
         }
     }
 }

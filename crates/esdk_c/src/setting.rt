@@ -3,14 +3,13 @@
 ghost use Rattle.std.specs.Prelude.{◌≡◌, ◌-◌, ◌^◌};
 ghost use Rattle.c_session.specs.FileSession.{Again, KeepsRead, drawn_by};
 ghost use Rattle.c_session.specs.FileTree.{file_state};
-ghost use Rattle.c_session.specs.Limits.{reader_settings, some_unless};
+ghost use Rattle.session_parts.specs.Limits.{reader_settings, some_unless};
 ghost use Rattle.c_session.specs.NewKeys.{BeginsResealing};
 ghost use Rattle.c_session.specs.Session.{BeginsOpening, BeginsSealing, PairsAs, RequiresAs};
-ghost use Rattle.esdk_c.specs.Calls.{CallsSession, MakesSession, Tells};
-ghost use Rattle.esdk_c.specs.Handle.{HoldsNoSession};
+ghost use Rattle.c_handle.specs.Calls.{CallsSession, MakesSession, Tells};
+ghost use Rattle.c_handle.specs.Handle.{HoldsNoSession};
 
-use crate::handle::Handle;
-use crate::taking::{NO_SESSION, give_back};
+use c_handle::{Handle, NO_SESSION, give_back};
 use c_session::{FileSession, keys_limit, settings};
 use std::alloc::Global;
 

@@ -5,9 +5,9 @@ ghost use Rattle.std.specs.Option.{option_map};
 ghost use Rattle.c_session.specs.FileSession.{OfContext, pair_at, reason_kept};
 ghost use Rattle.c_session.specs.Reason.{name_of};
 ghost use Rattle.c_session.specs.Telling.{ShowsIf, ShowsLine, ShowsSome};
-ghost use Rattle.esdk_c.specs.Calls.{Tells, TellsNone, TellsNumber, number_or};
+ghost use Rattle.c_handle.specs.Calls.{Tells, TellsNone, TellsNumber, number_or};
 
-use crate::handle::Handle;
+use c_handle::Handle;
 use std::alloc::Global;
 
 /// The line of the error that ended the session.

@@ -1,6 +1,6 @@
 use Rattle.std.proofs.Common.{◌∙◌, refl, inl}
 use Rattle.extract_core.specs.Extract.{range_of}
-use Rattle.c_session.specs.Handed.{handed_of}
+use Rattle.session_parts.specs.Handed.{handed_of}
 use Rattle.c_session.proofs.Ranges.{range_of_session}
 use Rattle.c_session.proofs.Sessions.{none_of}
 use Rattle.c_session.proofs.ranging.ask_range.Goals as goal

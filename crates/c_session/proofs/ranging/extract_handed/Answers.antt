@@ -1,7 +1,8 @@
 use Rattle.std.proofs.Common.{ap, refl, Some}
 use Rattle.esdk_decrypt.specs.Decrypt.{asked_from}
 use Rattle.extract_core.specs.Extract.{range_of}
-use Rattle.c_session.specs.Handed.{ShelfNow, handed_of}
+use Rattle.session_parts.specs.Handed.{handed_of}
+use Rattle.c_session.specs.MessageShelf.{ShelfNow}
 use Rattle.c_session.proofs.Ranges.{range_comes, range_fails}
 use Rattle.c_session.proofs.ranging.extract_handed.Goals as goal
 

@@ -13,5 +13,5 @@ pub returns-in-Err : goal.returns-in-Err
 returns-in-Err c = record {
   came = Err c.in-Err.reason;
   lists = c.in-Err.ensures;
-  shows = (omega (arith, ints, c.code.ensures.code, c.code.ensures.few), refl, refl);
+  shows = (omega (arith, ints, c.code-code.ensures.code, c.code-code.ensures.few), refl, refl);
 }

@@ -19,4 +19,4 @@ returns-clause-ends c =
     (λ a s t. KeepsRead s t a (λ x y. EndsWith file_state x y c.args.rest.now a)) (λ a. not (is_done_answer a))
     c.args.room.now c.hand_out.new.written c.hand_out.new.waits c.hand_out.new.room
     c.whole-answer.result _ c.in-Some.session.value c.whole-answer.new.self
-    (rw c.deref_mut.ensures.value at c.whole-answer.ensures) c.hand_out.ensures cc))
+    (rw c.deref_mut.ensures.value at c.whole-answer.ensures) c.hand_out.ensures c.silent_unless_done-silent.ensures))

@@ -11,4 +11,4 @@ returns-in-Ok c =
 pub returns-in-Err : goal.returns-in-Err
 returns-in-Err c =
     asked_so _ _ _ _ _ _ _ _ c.in-Some.session.value c.range-came.new.self (Err c.in-Err.error) c.in-Some.ensures.0 c.put.ensures
-    (rw c.deref_mut.ensures.value at c.in-Err.ensures) (omega (arith, ints, c.code.ensures.code, c.code.ensures.few), refl, refl)
+    (rw c.deref_mut.ensures.value at c.in-Err.ensures) (omega (arith, ints, c.code-code.ensures.code, c.code-code.ensures.few), refl, refl)

@@ -1,4 +1,4 @@
-use Rattle.c_session.specs.Handed.{handed_of}
+use Rattle.session_parts.specs.Handed.{handed_of}
 use Rattle.c_session.proofs.Handing.{read_agrees}
 use Rattle.c_session.proofs.message_shelf.MessageShelfShelf.read_at.Goals as goal
 

@@ -6,10 +6,10 @@ returns-in-Ok g c = record {
   on = c.requires.on;
   sealer = c.in-Ok.sealer;
   machine = c.put-in-Ok.ensures;
-  begins = rw (c.new-request.ensures, c.replace-pairs.ensures.value) at c.in-Ok.ensures.begins;
+  begins = rw c.replace-pairs.ensures.value at c.in-Ok.ensures.begins;
 }
 
-pub returns : goal.returns
-returns g c =
+pub returns-in-Err : goal.returns-in-Err
+returns-in-Err g c =
     rw (c.fail.ensures.session, c.fail.ensures.answer)
-    (refl, (c.in-Err.reason, refl, (rw (c.new-request.ensures, c.replace-pairs.ensures.value) at c.in-Err.ensures.cause)))
+    (refl, (c.in-Err.reason, refl, (rw c.replace-pairs.ensures.value at c.in-Err.ensures.cause)))

@@ -1,5 +1,0 @@
-use Rattle.std.proofs.Common.{refl}
-use Rattle.c_session.proofs.limits.settings.Goals as goal
-
-pub returns : goal.returns
-returns c = rw (c.keys_limit.ensures, c.unit_limit.ensures) refl

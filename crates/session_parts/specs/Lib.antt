@@ -1,0 +1,4 @@
+pub mod Handed
+pub mod Limits
+pub mod Waiting
+pub mod WaitingLaws
