@@ -2,10 +2,8 @@
 use Rattle.std.proofs.Common.{◌≡◌, ◌<◌, ◌≤◌, ◌+◌, ℕ, suc, Bool, true, false, List, [], ◌∷◌, ◌++◌, length, drop, get_or, refl, sym, ap, subst, ◌∙◌, add-one, append_assoc, append-nil}
 use Rattle.std.proofs.lemmas.List.{drop_all, drop_more}
 use Rattle.std.specs.Prelude.{if◌then◌else◌}
-use Rattle.esdk_report.specs.Lines.{number_word}
 use Rattle.audit_core.specs.declared.audited.Audited.{Audited}
-use Rattle.audit_core.specs.Lines.{leaf_line, leaf_lines, message_line, message_lines, number_words}
-use Rattle.audit_core.specs.Openers.{numbers_of}
+use Rattle.audit_core.specs.Lines.{leaf_line, leaf_lines, message_line, message_lines}
 
 -- the element at the index, and those behind it
 left_from : {A : Type 0} (xs : List A) (i : ℕ) (x : A) → i < length xs → x ≡ get_or xs i x → drop i xs ≡ x ∷ drop (i + 1) xs
@@ -21,14 +19,6 @@ message_more messages i number message text lt is =
 pub messages_done : (messages : List Audited) (i number : ℕ) (text : List ℕ) → length messages ≤ i → text ++ message_lines number (drop i messages) ≡ text
 unfolding message_lines
 messages_done messages i number text past = ap (λ (left : List Audited). text ++ message_lines number left) (drop_all i messages past) ∙ append-nil text
-
-pub number_more : (numbers : List ℕ) (i number : ℕ) (text : List ℕ) → i < length numbers → number ≡ get_or numbers i number
-    → text ++ number_words (drop i numbers) ≡ (text ++ number_word number) ++ number_words (drop (i + 1) numbers)
-number_more numbers i number text lt is =
-    ap (λ (left : List ℕ). text ++ number_words left) (left_from numbers i number lt is) ∙ sym (append_assoc text (number_word number) (number_words (drop (i + 1) numbers)))
-
-pub numbers_done : (numbers : List ℕ) (i : ℕ) (text : List ℕ) → length numbers ≤ i → text ++ number_words (drop i numbers) ≡ text
-numbers_done numbers i text past = ap (λ (left : List ℕ). text ++ number_words left) (drop_all i numbers past) ∙ append-nil text
 
 -- one leaf more
 leaf_next : (count : ℕ) (messages : List Audited) (text : List ℕ) → (text ++ leaf_lines count messages) ++ leaf_line (suc count) messages ≡ text ++ leaf_lines (suc count) messages
@@ -49,16 +39,3 @@ chosen false front n rest is = absurd cc
 passed : (b : Bool) (front : List ℕ) (n : ℕ) (rest : List ℕ) → b ≡ false → front ++ (if b then n ∷ rest else rest) ≡ front ++ rest
 passed true front n rest is = absurd cc
 passed false front n rest is = refl
-
-pub one_numbered : {A : Type 0} (test : A → Bool) (xs : List A) (i n : ℕ) (x : A) (front : List ℕ) → i < length xs → x ≡ get_or xs i x → test x ≡ true
-    → front ++ numbers_of test n (drop i xs) ≡ (front ++ n ∷ []) ++ numbers_of test (n + 1) (drop (i + 1) xs)
-one_numbered {A = A} test xs i n x front lt is passes =
-    ap (λ (left : List A). front ++ numbers_of test n left) (left_from xs i x lt is) ∙ chosen (test x) front n (numbers_of test (n + 1) (drop (i + 1) xs)) passes
-
-pub one_passed : {A : Type 0} (test : A → Bool) (xs : List A) (i n : ℕ) (x : A) (front : List ℕ) → i < length xs → x ≡ get_or xs i x → test x ≡ false
-    → front ++ numbers_of test n (drop i xs) ≡ front ++ numbers_of test (n + 1) (drop (i + 1) xs)
-one_passed {A = A} test xs i n x front lt is fails =
-    ap (λ (left : List A). front ++ numbers_of test n left) (left_from xs i x lt is) ∙ passed (test x) front n (numbers_of test (n + 1) (drop (i + 1) xs)) fails
-
-pub all_numbered : {A : Type 0} (test : A → Bool) (xs : List A) (i n : ℕ) (front : List ℕ) → length xs ≤ i → front ++ numbers_of test n (drop i xs) ≡ front
-all_numbered {A = A} test xs i n front past = ap (λ (left : List A). front ++ numbers_of test n left) (drop_all i xs past) ∙ append-nil front

@@ -21,17 +21,6 @@ abbrev with_opener : Bool → ℕ → List ℕ → List ℕ
 with_opener true number openers = openers ++ number ∷ []
 with_opener false number openers = openers
 
-pub none_tried : (ms : List KeyringMeaning) (h : HeaderValue) (whole only : List KeyValue) → NamesFirst ms ms h whole only 0 []
-none_tried ms h whole only = record {
-  answers = [];
-  behind = ms;
-  old_is = refl;
-  now_is = refl;
-  count_is = refl;
-  are = All-nil (IsAnswer whole h.entries);
-  openers_are = refl;
-}
-
 opener_more : (b test : Bool) (number : ℕ) (openers : List ℕ) → b ≡ test → with_opener b number openers ≡ openers ++ (if test then number ∷ [] else [])
 opener_more true test number openers is = rw (sym is) refl
 opener_more false test number openers is = rw (sym is) (sym (append-nil openers))

@@ -1,7 +1,7 @@
 -- Places further on, and fewer bytes.
 use Rattle.std.proofs.Common.{◌≡◌, ℕ, ◌+◌, ◌-◌, ◌≤◌, List, [], length, take, drop, refl, sym, ap, ◌∙◌, arith, inl, inr}
 use Rattle.std.proofs.lemmas.Bool.{cases_lt}
-use Rattle.std.proofs.lemmas.List.{drop-take, drop-drop, drop_all, length-take, length-drop}
+use Rattle.std.proofs.lemmas.List.{drop-take, drop-drop, drop_all, length-take}
 use Rattle.esdk_fields.specs.Place.{Place, past, cut}
 
 -- no bytes are taken of any
@@ -27,10 +27,6 @@ past_past m n p =
 
 pub past_none : (p : Place) → past 0 p ≡ p
 past_none p = let e : p.at + 0 ≡ p.at = omega arith in ap (λ (at : ℕ). record { at = at; left = p.left }) e
-
--- how many bytes are left further on, and before a cut
-pub length-past : (m : ℕ) (p : Place) → length (past m p).left ≡ length p.left - m
-length-past m p = length-drop m p.left
 
 pub length-cut : (n : ℕ) (p : Place) → length (cut n p).left ≤ n - p.at
 length-cut n p = omega (arith, length-take (n - p.at) p.left)

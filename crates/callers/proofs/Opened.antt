@@ -16,7 +16,7 @@ use Rattle.esdk_fields.specs.declared.faults.Fault.TheVariants.{Truncated}
 use Rattle.stream_open.specs.declared.errors.OpenError.TheVariants as opens
 use Rattle.stream_open.specs.declared.session.Opener.{Opener}
 use Rattle.stream_open.specs.Feeding.{GoesOn}
-use Rattle.stream_open.specs.Receiving.{FeedsOpenerPiece, OpenerHasSession}
+use Rattle.stream_open.specs.Receiving.{FeedsOpenerPiece}
 use Rattle.stream_open.specs.Session.{OpeningValue, answer_kept, end_of_verdict, opening_finish_answer, opening_finished, judged_now, new_opening_session, whole_context, whole_in}
 use Rattle.stream_open.specs.Stands.{Stands}
 use Rattle.stream_open.proofs.AnyCut.{kept_none}
@@ -31,9 +31,6 @@ pub record Opening (limits : Settings) (bytes : List ℕ) (before now : Option (
   pub settings : session.settings ≡ limits
   pub taken : session.taken ≡ bytes
   pub gained : Appends before now (content (judged_now session))
-
-pub has_session : (limits : Settings) (bytes : List ℕ) (before now : Option (List ℕ)) (opener : Opener) → Opening limits bytes before now opener → OpenerHasSession opener
-has_session limits bytes before now opener t = record { session = t.session; stands = t.stands }
 
 pub opening_first : (limits : Settings) (given : List KeyValue) (before : Option (List ℕ)) (opener : Opener) → Stands opener (new_opening_session limits given) → Opening limits [] before before opener
 opening_first limits given before opener stands = record {

@@ -39,10 +39,6 @@ use Rattle.whole_input.specs.FileSource.{FileReadsOn, file_left, left_from}
 field_end : (n : ℕ) (p : Place) (x : List ℕ) (next : Place) → bytes n p ≡ Read x next → next.at ≡ p.at + n
 field_end n p x next e = let f = field_is_read (λ b. b) n p x next e in ap (λ (q : Place). q.at) (sym f.after)
 
-iv_size : Suite → ℕ
-iv_size Committing = 0
-iv_size Uncommitted = 12
-
 iv_end : (suite : Suite) (p : Place) (x : List ℕ) (next : Place) → header_iv suite p ≡ Read x next → next.at + 16 ≡ p.at + authentication_size suite
 unfolding header_iv
 iv_end Committing p x next e = let same : p ≡ next = cc in omega (arith, ap (λ (q : Place). q.at) same)

@@ -24,18 +24,6 @@ pub record Stepped (old new : Sealer) (rest : List ℕ) (answer : Result ℕ Sea
 pub still_begins : (v : SealingValue) (piece : List ℕ) (sealer : Sealer) → Stands sealer v → IsFeeding v piece → FeedsStill v piece sealer piece []
 still_begins v piece sealer stands is = record { now = v; stands = stands; way = begins v piece is }
 
-pub still_goes : (v : SealingValue) (piece : List ℕ) (old new : Sealer) (rest given out : List ℕ) (answer : Result ℕ SealError) (used : ℕ) → FeedsStill v piece old rest given → 1 ≤ length rest
-    → Stepped old new rest answer → ((w : SealingValue) → Stands new w → out ≡ w.out) → answer ≡ Ok used → FeedsStill v piece new (drop used rest) (given ++ out)
-still_goes v piece old new rest given out answer used still some step gave is =
-    let next : SealingValue = sealing_stepped still.now rest in
-    let stands : Stands new next = step.stands still.now still.stands in
-    record {
-      now = next;
-      stands = stands;
-      way = subst (λ (l : List ℕ). IsOnTheWay v piece next (drop used rest) (given ++ l)) (sym (gave next stands))
-          (goes_on v piece still.now rest given used still.way some (sym (step.answers still.now still.stands) ∙ is));
-    }
-
 pub still_arrives : (v : SealingValue) (piece : List ℕ) (sealer : Sealer) (given : List ℕ) → FeedsStill v piece sealer [] given → FeedsNoMore v piece sealer given None
 still_arrives v piece sealer given still =
     let end = arrives v piece still.now given still.way in

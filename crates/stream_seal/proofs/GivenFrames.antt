@@ -126,15 +126,6 @@ most_more (Some whole) room count unspent more = by_test (whole - count == 0) re
     by_test true none is = absurd (cc)
     by_test false some is = let left = eqb-false (whole - count) 0 some in omega (arith, left)
 
--- where more can be taken, not all declared bytes were
-pub unspent_more : (declared : Option ℕ) (room count : ℕ) → count < most_of declared room → spent_of declared count ≡ None
-unspent_more None room count more = refl
-unspent_more (Some whole) room count more = by_test (whole - count == 0) refl
-  where
-    by_test : (b : Bool) → (whole - count == 0) ≡ b → (if b then Some whole else None) ≡ None
-    by_test true none = absurd (omega (arith, eqb-true (whole - count) 0 none, more))
-    by_test false some = refl
-
 -- what is taken has room
 pub most_within : (declared : Option ℕ) (room count step : ℕ) → count ≤ most_of declared room → count + step ≤ room → count + within_of declared count step ≤ most_of declared room
 most_within None room count step short fits = fits
