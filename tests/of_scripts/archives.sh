@@ -286,6 +286,9 @@ archive_full_disks() {
     run env TMPDIR="$work/small" "$share/esdk-archive" make key kept full
     want "a full folder of notes: a status" [ "$status" -ne 0 ]
     want "a full folder of notes: nothing is made" [ ! -e full ]
+    head -c 112k /dev/zero >small/fill
+    run env TMPDIR="$work/small" "$share/esdk-archive" check key arc
+    ended "a check whose folder of notes gets full" 4
     umount small
 }
 
