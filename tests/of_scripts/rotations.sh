@@ -46,6 +46,7 @@ rotations() {
     rotate_by plainly key newest rotated
     ended "a rotation again" 0
     odd_rotations
+    rotations_of_words
     synced_rotation
     want "nothing is left of rotations" [ -z "$(find rotated -name '*.new' -o -name '.esdk*')" ]
 }
@@ -115,6 +116,23 @@ END
     want "nothing outside is touched" diff -r outer.before outer
     want "a file of another name stays" holds rotated/a.new mine
     find rotated -mindepth 1 ! -path rotated/a.esdk ! -path 'rotated/deep*' -delete
+}
+
+# A folder whose name `find` would take for a word of its own is rotated, and nothing beside it.
+rotations_of_words() {
+    mkdir beside
+    make_message key beside/m.esdk file=beside
+    cp beside/m.esdk before.esdk
+    for folder in '!' '(' ')' ',' -L -name; do
+        mkdir "./$folder"
+        make_message key "./$folder/m.esdk" file=m
+        rotate_by plainly key newest "$folder"
+        ended "a rotation of a folder named $folder" 0
+        want "its message is under the new key" sh -c '"$0" decrypt --keyring=newest <"$1"' "$ESDK" "./$folder/m.esdk"
+        want "and the one beside it stays" cmp before.esdk beside/m.esdk
+        rm -r "./$folder"
+    done
+    rm -r beside
 }
 
 # Each folder is written out once its messages have their names.
