@@ -171,7 +171,7 @@ lacking_tools() {
     for name in bash sh env cat tee tail grep sed awk mktemp rm touch chmod dirname basename readlink; do
         ln -s "$(command -v "$name")" few/
     done
-    for tool in strace cc gcc objcopy valgrind jq python3 shellcheck mandoc; do
+    for tool in cc gcc objcopy valgrind jq python3 shellcheck mandoc; do
         mv "gate/with-tools/$tool" gate/lacking
         : >checked
         run env -u ESDK -u ESDK_LIBRARY -u BEHIND_CI PATH="$work/with-gate:$work/gate/with-tools:$work/few" gate/.ci/run
@@ -181,6 +181,12 @@ lacking_tools() {
         want "the gate without $tool counts all others" last "$((5 + 11 - $(grep -c '^skipped: ' output))) passed, 0 failed"
         mv gate/lacking "gate/with-tools/$tool"
     done
+    mv gate/with-tools/strace gate/lacking
+    : >checked
+    run env -u ESDK -u ESDK_LIBRARY -u BEHIND_CI PATH="$work/with-gate:$work/gate/with-tools:$work/few" gate/.ci/run
+    ended "the gate without strace" 0
+    want "the gate without strace runs tests/outside, which says what it leaves out" grep -q '^tests/outside ' checked
+    mv gate/lacking gate/with-tools/strace
     printf '#!/bin/sh\n[ "$1" != -c ]\n' >gate/with-tools/python3
     run env -u ESDK -u ESDK_LIBRARY -u BEHIND_CI PATH="$work/with-gate:$work/gate/with-tools:$PATH" gate/.ci/run
     want "the gate without Python's package says so" [ "$(grep -c '^skipped: .*: no cryptography$' output)" -eq 3 ]
